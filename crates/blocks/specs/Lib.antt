@@ -1,0 +1,6 @@
+pub mod Kinds
+pub mod Refusals
+pub mod Check
+pub mod Layout
+pub mod Asking
+pub mod Headers
