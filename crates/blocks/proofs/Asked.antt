@@ -6,11 +6,11 @@ use Prim.Native.Nat.{ℕ, _-_}
 use lib.Dec.{eqb}
 use lib.ListN.{length, getD, take, drop}
 use Rattle.std.specs.shelf.Lists.{between}
-use Rattle.std.specs.declared.option.Option.the-variants.{None}
-use Rattle.std.proofs.shelf.Tests.{eq-eqb, eqb-true}
+use Rattle.std.specs.declared.option.Option.the-variants.{Some, None}
+use Rattle.std.proofs.shelf.Tests.{eq-eqb, ne-eqb, eqb-true}
 use Rattle.questions.specs.Questions.{firstNo}
 use Rattle.questions.proofs.Answered.{passed}
-use Rattle.blocks.specs.declared.refusals.BlockRefusal.the-variants.{WrongKind, WrongEdition, WrongPlace, NotZero, WrongCheck}
+use Rattle.blocks.specs.declared.refusals.BlockRefusal.the-variants.{NotWhole, WrongKind, WrongEdition, WrongPlace, NotZero, WrongCheck}
 use Rattle.blocks.specs.Asking.{opening}
 use Rattle.blocks.specs.Check.{checkWord}
 use Rattle.blocks.specs.Layout.{twoAt, fourAt, allZero}
@@ -30,11 +30,17 @@ module _ (kind place : ℕ) (xs : List ℕ) where
   pub asked : length xs ≡ 512 → (found number stored word : ℕ) (zeros : Bool) → found ≡ kind → number ≡ twoAt xs 2 → zeros ≡ allZero (take 8 (take (length xs - 4) (drop 4 xs))) → stored ≡ fourAt xs 508 → word ≡ checkWord (take 508 xs)
       → firstNo ((eqb (getD xs 0 0) found, WrongKind) ∷ (eqb (getD xs 1 0) 1, WrongEdition) ∷ (eqb number place, WrongPlace) ∷ (zeros, NotZero) ∷ (eqb stored word, WrongCheck) ∷ [])
       ≡ opening kind place xs
+  unfolding opening
   asked long found number stored word zeros f n z s w =
       let b = zeros-part xs long in
       rw (f, n, z, s, w, b) (rw (eq-eqb (length xs) 512 long))
 
+  pub not-whole : (length xs ≡ 512 → ⊥) → opening kind place xs ≡ Some NotWhole
+  unfolding opening
+  not-whole short = rw (ne-eqb (length xs) 512 short)
+
   pub sound : opening kind place xs ≡ None → Sound kind place xs
+  unfolding opening
   sound none =
       let a = passed (eqb (length xs) 512) _ _ none in
       let b = passed (eqb (getD xs 0 0) kind) _ _ (a .1) in
@@ -52,5 +58,6 @@ module _ (kind place : ℕ) (xs : List ℕ) where
       }
 
   pub opens : Sound kind place xs → opening kind place xs ≡ None
+  unfolding opening
   opens h =
       simp (eq-eqb (length xs) 512 (h .long), eq-eqb (getD xs 0 0) kind (h .kind-is), eq-eqb (getD xs 1 0) 1 (h .edition-is), eq-eqb (twoAt xs 2) place (h .number-is), h .zeros-are, eq-eqb (fourAt xs 508) (checkWord (take 508 xs)) (h .check-is))

@@ -2,7 +2,7 @@
 use mathlib.Core.Bool.{true}
 use mathlib.Core.List.{List, [], _∷_, _++_}
 use mathlib.Core.Path.{_≡_, refl, sym, ap, _∙_}
-use Prim.Native.Nat.{ℕ, zero, suc, _+_, _*_, _/_, _%_, _^_, _<_}
+use Prim.Native.Nat.{ℕ, suc, _+_, _*_, _/_, _%_, _^_, _<_}
 use native.Mathlib.Omega.{arith}
 use lib.ListN.{length, getD, take, replicate, length-append}
 use Rattle.std.specs.shelf.Lists.{between, folded}
@@ -15,10 +15,7 @@ use Rattle.blocks.specs.Asking.{opening, opened}
 use Rattle.blocks.specs.Check.{checkWord, mixed, rotated}
 use Rattle.blocks.specs.Layout.{fourBytes, covered, sealed, fourAt, allZero, payloadOf}
 use Rattle.blocks.proofs.Asked.{Sound, opens}
-
--- a list of bytes
-abbrev pub Bytes : List ℕ → Type 0
-Bytes xs = (i : ℕ) → getD xs i 0 < 256
+use Rattle.blocks.proofs.Bytes.{Bytes, bytes-cons, bytes-append, bytes-zeros}
 
 mixed-fits : (w b : ℕ) → b < 256 → w < 2 ^ 32 → mixed w b < 2 ^ 32
 mixed-fits w b hb hw = xor-lt 32 (rotated w) b (omega arith) (omega arith)
@@ -27,18 +24,10 @@ pub check-fits : (xs : List ℕ) (w : ℕ) → w < 2 ^ 32 → Bytes xs → folde
 check-fits [] w hw hb = hw
 check-fits (x ∷ xs) w hw hb = check-fits xs (mixed w x) (mixed-fits w x (hb 0) hw) (λ i. hb (suc i))
 
-bytes-cons : (x : ℕ) (xs : List ℕ) → x < 256 → Bytes xs → Bytes (x ∷ xs)
-bytes-cons x xs h b zero = h
-bytes-cons x xs h b (suc i) = b i
-
-bytes-zeros : (n : ℕ) (xs : List ℕ) → Bytes xs → Bytes (replicate n 0 ++ xs)
-bytes-zeros zero xs b = b
-bytes-zeros (suc n) xs b = bytes-cons 0 (replicate n 0 ++ xs) (omega arith) (bytes-zeros n xs b)
-
 covered-bytes : (kind number : ℕ) (p : List ℕ) → kind < 256 → Bytes p → Bytes (covered kind number p)
 covered-bytes kind number p hk hp =
     let z = replicate 8 0 ++ p in
-    let a = bytes-cons (number % 256) z (omega arith) (bytes-zeros 8 p hp) in
+    let a = bytes-cons (number % 256) z (omega arith) (bytes-append (replicate 8 0) p (bytes-zeros 8) hp) in
     let b = bytes-cons (number / 256 % 256) (number % 256 ∷ z) (omega arith) a in
     bytes-cons kind (1 ∷ number / 256 % 256 ∷ number % 256 ∷ z) hk (bytes-cons 1 (number / 256 % 256 ∷ number % 256 ∷ z) (omega arith) b)
 

@@ -27,7 +27,7 @@ sealing kind payload target = firstNo (
     ∷ [])
 
 -- the first no to a block of a kind at a place
-abbrev pub opening : ℕ → ℕ → List ℕ → Option BlockRefusal
+unfoldable pub opening : ℕ → ℕ → List ℕ → Option BlockRefusal
 opening kind place bytes = firstNo (
     (eqb (length bytes) 512, NotWhole)
     ∷ (eqb (getD bytes 0 0) kind, WrongKind)

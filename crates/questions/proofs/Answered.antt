@@ -13,6 +13,11 @@ pub accepted : {R X : Type 0} (o : Option R) (x y : X) → answered o x ≡ Ok y
 accepted None x y e = refl
 accepted (Some r) x y e = absurd (let z : _≡_ {A = ℕ} 0 1 = cc in omega arith)
 
+-- an accepted call gave its value
+pub given : {R X : Type 0} (o : Option R) (x y : X) → answered o x ≡ Ok y → x ≡ y
+given None x y e = cc
+given (Some r) x y e = absurd (let z : _≡_ {A = ℕ} 0 1 = cc in omega arith)
+
 -- a refused call got this no
 pub refused : {R X : Type 0} (o : Option R) (x : X) (r : R) → answered o x ≡ Err r → o ≡ Some r
 refused None x r e = absurd (let z : _≡_ {A = ℕ} 0 1 = cc in omega arith)

@@ -5,10 +5,15 @@ use Rattle.questions.specs.Questions.{answered}
 use Rattle.questions.proofs.Answered.{accepted, refused}
 use Rattle.blocks.specs.Kinds.{kindByte}
 use Rattle.blocks.specs.Layout.{sealed, payloadOf}
-use Rattle.blocks.proofs.Asked.{asked, sound}
+use Rattle.blocks.proofs.Asked.{asked, not-whole, sound}
 use Rattle.blocks.proofs.OnlySealed.{only-sealed}
 use Rattle.blocks.proofs.Parts.{payload-part}
 use Rattle.blocks.proofs.opening.open.Needs as need
+
+pub returns-then-bytes-ne-BLOCK : need.returns-then-bytes-ne-BLOCK
+returns-then-bytes-ne-BLOCK c =
+    let xs = c .args .bytes .now in
+    record { answers = sym (ap (λ o. answered o (payloadOf xs)) (not-whole (kindByte (c .args .kind)) (c .args .place) xs (c .if-bytes-ne-BLOCK .taken))); exact = tt }
 
 pub returns-in-Break-ask : need.returns-in-Break-ask
 returns-in-Break-ask c =

@@ -1,0 +1,5 @@
+pub mod BlocksAsked
+pub mod Payloads
+pub mod OnlySealed
+pub mod SealedFrom
+pub mod ReadsBack
