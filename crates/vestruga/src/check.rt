@@ -1,18 +1,20 @@
 // `check`: an image accepted, or refused at the first no.
-use blocks::kinds::Kind;
-use images::checking::check;
-use images::checking::kind_of;
+use super::counts::Blocks;
+use super::counts::BlocksDisplay;
 use super::files;
 use super::troubles::Trouble;
 use super::troubles::TroubleFromOutput;
 use super::troubles::TroubleFromRefusal;
+use blocks::kinds::Kind;
+use images::checking::check;
+use images::checking::kind_of;
 
-pub fn run(rt: &LibcRuntime, path: &str) -> Result<(), Trouble> {
+pub(super) fn run(rt: &LibcRuntime, path: &str) -> Result<(), Trouble> {
     let image = files::read(rt, path)?;
     let kind = kind_of(&image);
-    let blocks = check(kind, &image)?;
+    let blocks = Blocks(check(kind, &image)?);
     let name = kind_name(kind);
-    println!(rt, "{path} is a sound {name} image: {blocks} blocks")?;
+    println!(rt, "{path} is a sound {name} image: {blocks}")?;
     Ok(())
 }
 

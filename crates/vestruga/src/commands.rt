@@ -1,61 +1,70 @@
 // What the words of a command ask for.
 use blocks::kinds::Kind;
+use commands::kinds::kind_named;
+use commands::verbs::Verb;
+use commands::verbs::VerbDisplay;
 use std::fmt;
 
-pub enum Command<'a> {
-    Seal { kind: Kind, from: &'a str, to: &'a str },
-    Check { image: &'a str },
-    Show { image: &'a str, payload: bool },
+pub(super) enum Command<'a> {
+    Seal {
+        kind: Kind,
+        from: &'a str,
+        to: &'a str,
+    },
+    Check {
+        image: &'a str,
+    },
+    Show {
+        image: &'a str,
+        payload: bool,
+    },
     Help,
 }
 
 #[derive(Clone, Copy)]
-pub enum Misuse {
-    UnknownCommand,
+pub(super) enum Misuse {
+    Empty,
+    UnknownVerb,
     UnknownKind,
-    Seal,
-    Check,
-    Show,
-    Help,
+    Words(Verb),
 }
 
-impl Command<'_> {
-    pub fn parse<'a>(words: &[&'a str]) -> Result<Command<'a>, Misuse> {
-        match words {
-            ["seal", kind, from, to] => match kind_named(kind) {
-                Some(kind) => Ok(Command::Seal { kind, from, to }),
-                None => Err(Misuse::UnknownKind),
-            },
-            ["seal", ..] => Err(Misuse::Seal),
-            ["check", image] => Ok(Command::Check { image }),
-            ["check", ..] => Err(Misuse::Check),
-            ["show", image] => Ok(Command::Show { image, payload: false }),
-            ["show", image, "--payload"] => Ok(Command::Show { image, payload: true }),
-            ["show", ..] => Err(Misuse::Show),
-            ["help"] => Ok(Command::Help),
-            ["help", ..] => Err(Misuse::Help),
-            _ => Err(Misuse::UnknownCommand),
-        }
+pub(super) fn parse<'a>(words: &[&'a str]) -> Result<Command<'a>, Misuse> {
+    let [word, rest @ ..] = words else {
+        return Err(Misuse::Empty);
+    };
+    let Some(verb) = Verb::named(word) else {
+        return Err(Misuse::UnknownVerb);
+    };
+    match (verb, rest) {
+        (Verb::Seal, [kind, from, to]) => match kind_named(kind) {
+            Some(kind) => Ok(Command::Seal { kind, from, to }),
+            None => Err(Misuse::UnknownKind),
+        },
+        (Verb::Check, [image]) => Ok(Command::Check { image }),
+        (Verb::Show, [image]) => Ok(Command::Show {
+            image,
+            payload: false,
+        }),
+        (Verb::Show, [image, "--payload"]) => Ok(Command::Show {
+            image,
+            payload: true,
+        }),
+        (Verb::Help, []) => Ok(Command::Help),
+        (verb, _) => Err(Misuse::Words(verb)),
     }
 }
 
-fn kind_named(word: &str) -> Option<Kind> {
-    match word {
-        "code" => Some(Kind::Code),
-        "table" => Some(Kind::Table),
-        _ => None,
-    }
-}
-
-pub impl fmt::Display for Misuse as MisuseDisplay {
+pub(super) impl fmt::Display for Misuse as MisuseDisplay {
     fn fmt<W: fmt::Write>(&self, f: &mut fmt::Formatter<W>) -> fmt::Result {
         match self {
-            Misuse::UnknownCommand => write!(f, "there is no such command; `vestruga help` lists them"),
-            Misuse::UnknownKind => write!(f, "a block's kind is `code` or `table`"),
-            Misuse::Seal => write!(f, "seal takes three words: seal code|table IN OUT"),
-            Misuse::Check => write!(f, "check takes one word: check IMAGE"),
-            Misuse::Show => write!(f, "show takes one word: show IMAGE [--payload]"),
-            Misuse::Help => write!(f, "help takes no words"),
+            Misuse::Empty => write!(f, "there is no command; `vestruga help` lists them"),
+            Misuse::UnknownVerb => write!(
+                f,
+                "there is no such command; `vestruga help` lists them"
+            ),
+            Misuse::UnknownKind => write!(f, "a block's kind is written `code` or `table`"),
+            Misuse::Words(verb) => write!(f, "the command is written so: vestruga {verb}"),
         }
     }
 }

@@ -12,7 +12,7 @@ vestruga COMMAND, or a script of commands on standard input, one a line, # start
 
 A refused or failed command leaves its output file as it was.";
 
-pub fn run(rt: &LibcRuntime) -> Result<(), Trouble> {
+pub(super) fn run(rt: &LibcRuntime) -> Result<(), Trouble> {
     println!(rt, "{HELP}")?;
     Ok(())
 }

@@ -1,21 +1,21 @@
 // The command-line program: one command from its arguments, or a script of them from standard input.
 mod check;
 mod commands;
+mod counts;
 mod files;
 mod help;
 mod seal;
 mod show;
 mod troubles;
 
-use commands::Command;
-use commands::Misuse;
-use commands::MisuseDisplay;
+use self::commands::Command;
+use self::commands::parse;
+use self::troubles::Trouble;
+use self::troubles::TroubleDisplay;
+use self::troubles::TroubleFromMisuse;
 use std::alloc::Global;
 use std::env;
 use std::error::AnyError;
-use troubles::Trouble;
-use troubles::TroubleDisplay;
-use troubles::TroubleFromMisuse;
 
 fn main(rt: LibcRuntime) -> Result<(), AnyError> {
     let mut arguments = Vec::new(rt.alloc());
@@ -67,7 +67,7 @@ fn split(heap: Global, line: &str) -> Result<Vec<&str>, AnyError> {
 }
 
 fn run(rt: &LibcRuntime, words: &[&str]) -> Result<(), Trouble> {
-    match Command::parse(words)? {
+    match parse(words)? {
         Command::Seal { kind, from, to } => seal::run(rt, kind, from, to),
         Command::Check { image } => check::run(rt, image),
         Command::Show { image, payload } => show::run(rt, image, payload),

@@ -1,4 +1,7 @@
 // `show`: every block of an image, sound or not.
+use super::files;
+use super::troubles::Trouble;
+use super::troubles::TroubleFromOutput;
 use blocks::headers::Header;
 use blocks::kinds::Kind;
 use blocks::layout::BLOCK;
@@ -6,11 +9,9 @@ use blocks::opening::open;
 use blocks::refusals::BlockRefusalDisplay;
 use images::checking::kind_of;
 use images::refusals::ImageRefusal;
-use super::files;
-use super::troubles::Trouble;
-use super::troubles::TroubleFromOutput;
+use std::fmt;
 
-pub fn run(rt: &LibcRuntime, path: &str, payload: bool) -> Result<(), Trouble> {
+pub(super) fn run(rt: &LibcRuntime, path: &str, payload: bool) -> Result<(), Trouble> {
     let image = files::read(rt, path)?;
     let kind = kind_of(&image);
     let blocks = image.len() / BLOCK;
@@ -24,14 +25,23 @@ pub fn run(rt: &LibcRuntime, path: &str, payload: bool) -> Result<(), Trouble> {
     Ok(())
 }
 
-fn block(rt: &LibcRuntime, kind: Kind, place: u16, bytes: &[u8], payload: bool) -> Result<(), Trouble> {
+fn block(
+    rt: &LibcRuntime,
+    kind: Kind,
+    place: u16,
+    bytes: &[u8],
+    payload: bool,
+) -> Result<(), Trouble> {
     if let Some(header) = Header::read(bytes) {
         let number = header.number;
         let byte = header.kind;
         let edition = header.edition;
         let check = header.check;
         let name = kind_name(byte);
-        print!(rt, "block {place}: number {number}, kind {byte} ({name}), edition {edition}, check {check:08X}: ")?;
+        print!(
+            rt,
+            "block {place}: number {number}, kind {byte} ({name}), edition {edition}, check {check:08X}: "
+        )?;
     }
     match open(bytes, kind, place) {
         Ok(_) => println!(rt, "sound")?,
@@ -55,11 +65,20 @@ fn kind_name(byte: u8) -> &'static str {
 fn dump(rt: &LibcRuntime, bytes: &[u8]) -> Result<(), Trouble> {
     for (line, row) in bytes.chunks(16).enumerate() {
         let place = line.wrapping_mul(16);
-        print!(rt, "  {place:03}:")?;
-        for byte in row {
-            print!(rt, " {byte:02X}")?;
-        }
-        println!(rt, "")?;
+        let row = Row(row);
+        println!(rt, "  {place:03}:{row}")?;
     }
     Ok(())
+}
+
+#[derive(Drop)]
+struct Row<'a>(&'a [u8]);
+
+impl fmt::Display for Row<'_> as RowDisplay {
+    fn fmt<W: fmt::Write>(&self, f: &mut fmt::Formatter<W>) -> fmt::Result {
+        for byte in self.0 {
+            write!(f, " {byte:02X}")?;
+        }
+        Ok(())
+    }
 }
