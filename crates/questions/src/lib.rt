@@ -6,10 +6,19 @@ ghost use Rattle.questions.specs.Questions.{answered, firstNo};
 pub fn ask<R: Copy>(questions: &[(bool, R)]) -> Result<(), R>
     ensures { λ r. ⌜ r ≡ answered (firstNo (now (questions .entry))) tt ⌝ }
 {
+    match first_no(questions) {
+        None => Ok(()),
+        Some(refusal) => Err(refusal),
+    }
+}
+
+fn first_no<R: Copy>(questions: &[(bool, R)]) -> Option<R>
+    ensures { λ r. ⌜ r ≡ firstNo (now (questions .entry)) ⌝ }
+{
     for question in questions {
         if !question.0 {
-            return Err(question.1);
+            return Some(question.1);
         }
     }
-    Ok(())
+    None
 }

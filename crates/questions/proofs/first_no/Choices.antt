@@ -1,7 +1,7 @@
 use mathlib.Core.Path.{_≡_}
 use lib.ListN.{drop}
 use Rattle.questions.specs.Questions.{firstNo}
-use Rattle.questions.proofs.ask.Given as given
+use Rattle.questions.proofs.first_no.Given as given
 
 -- what is left gives the whole
 abbrev pub Inv-loop-question : given.InvT-loop-question
