@@ -1,16 +1,16 @@
 -- After a subtraction each condition compares its operands.
-use mathlib.Core.Path.{_≡_, refl, sym, ap, ap₂, _∙_}
+use mathlib.Core.Path.{_≡_, refl, ap, ap₂, _∙_}
 use mathlib.Core.Bool.{Bool, true, false, not, _&&_, _||_}
 use mathlib.Core.Logic.{_⊎_, inl, inr}
-use Prim.Native.Nat.{ℕ, _+_, _-_, _*_, _%_, _^_, _<_, _≤_}
+use Prim.Native.Nat.{ℕ, _+_, _-_, _%_, _^_, _<_, _≤_}
 use native.Mathlib.Omega.{arith}
-use lib.Dec.{leb, ltb, eqb}
+use lib.Dec.{eqb}
 use lib.IntN.{ℤ, pos, negsuc, _+ℤ_, _-ℤ_}
 use lib.Signed.{ltZ, leZ, _<ℤ_, _≤ℤ_}
 use Rattle.std.proofs.shelf.Signed.{ints}
 use Rattle.std.proofs.shelf.Ways.{tells}
 use Rattle.std.proofs.shelf.Tests.{cases-lt}
-use Rattle.words.specs.Words.{bit, differ, outside, signed}
+use Rattle.words.specs.Words.{differ, outside, signed}
 use Rattle.words.specs.Sums.{sub}
 use Rattle.words.specs.Comparisons.{Compares}
 use Rattle.words.specs.declared.condition.Condition.the-variants.{True, Zero, Negative, Overflow, Below, Above, Less, Greater, False, NotZero, NotNegative, NoOverflow, NotBelow, NotAbove, NotLess, NotGreater}

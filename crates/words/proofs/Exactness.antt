@@ -1,11 +1,9 @@
 -- A word that wraps the exact number z, read as signed, is z exactly if z is not outside the signed words.
-use mathlib.Core.Path.{_≡_, refl, sym, ap, _∙_, subst}
-use mathlib.Core.Bool.{Bool, true, false, _||_}
-use Prim.Native.Nat.{ℕ, _+_, _-_, _*_, _%_, _^_, _<_, _≤_}
+use mathlib.Core.Path.{_≡_, sym, ap, _∙_, subst}
+use mathlib.Core.Bool.{Bool, true, false}
+use Prim.Native.Nat.{ℕ, _+_, _-_, _%_, _^_, _<_}
 use native.Mathlib.Omega.{arith}
-use lib.Dec.{leb}
 use lib.IntN.{ℤ, pos, negsuc, _+ℤ_, _-ℤ_}
-use lib.Signed.{ltZ, leZ, _<ℤ_, _≤ℤ_}
 use mir.Val.{SFits, toZ}
 use mir.Syntax.{w32}
 use Rattle.std.specs.shelf.Signed.{wrapped}
@@ -13,10 +11,6 @@ use Rattle.std.proofs.shelf.Signed.{ints, toZ-pos, wrapped-fits, sfits-wrapped,
 use Rattle.std.proofs.shelf.Ways.{tells}
 use Rattle.words.specs.Words.{bit, outside, signed}
 use Rattle.words.specs.Sums.{BorrowExact, CarryExact, ExactlyUnlessOverflow, addc, sub, subc}
-
-pub bit-small : (c : Bool) → bit c < 2 ^ 31
-bit-small true = omega arith
-bit-small false = omega arith
 
 bit-below : (c : Bool) → bit c < 2
 bit-below true = omega arith
@@ -44,18 +38,18 @@ one-more m b z hm hb e =
 module _ (u1 u2 : ℕ) (c : Bool) (h1 : u1 < 2 ^ 32) (h2 : u2 < 2 ^ 32) where
   pub addc-exact : ExactlyUnlessOverflow (signed u1 +ℤ signed u2 +ℤ pos (bit c)) (addc u1 u2 c)
   addc-exact =
-      let b : bit c < 2 ^ 31 = bit-small c in
+      let b : bit c < 2 ^ 31 = omega (arith, bit-below c) in
       let e : (u1 + u2 + bit c) % 2 ^ 32 ≡ ((u1 + u2) % 2 ^ 32 + bit c) % 2 ^ 32 = omega arith in
       exactly _ _ (ap signed e ∙ one-more ((u1 + u2) % 2 ^ 32) (bit c) _ (omega arith) b (wrapping-add-bits w32 u1 u2 h1 h2))
 
   pub subc-exact : ExactlyUnlessOverflow (signed u1 -ℤ signed u2 +ℤ pos (bit c)) (subc u1 u2 c)
   subc-exact =
-      let b : bit c < 2 ^ 31 = bit-small c in
+      let b : bit c < 2 ^ 31 = omega (arith, bit-below c) in
       let e : (u1 + (2 ^ 32 - u2) + bit c) % 2 ^ 32 ≡ ((u1 + (2 ^ 32 - u2)) % 2 ^ 32 + bit c) % 2 ^ 32 = omega arith in
       exactly _ _ (ap signed e ∙ one-more ((u1 + (2 ^ 32 - u2)) % 2 ^ 32) (bit c) _ (omega arith) b (wrapping-sub-bits w32 u1 u2 h1 h2))
 
   pub addc-carries : CarryExact (u1 + u2 + bit c) (addc u1 u2 c)
-  addc-carries = let b : bit c < 2 = bit-below c in grind (arith, tells)
+  addc-carries = let b = bit-below c in grind (arith, tells)
 
 module _ (u1 u2 : ℕ) (h1 : u1 < 2 ^ 32) (h2 : u2 < 2 ^ 32) where
   pub sub-borrows : BorrowExact u1 u2 (sub u1 u2)

@@ -1,6 +1,6 @@
 -- A rotation by one place, as the two parts of the word and as a shift with the bit that left coming in.
 use mathlib.Core.Path.{_≡_, _∙_}
-use Prim.Native.Nat.{ℕ, _+_, _*_, _/_, _%_, _^_, _<_}
+use Prim.Native.Nat.{ℕ, _*_, _/_, _%_, _^_, _<_}
 use native.Mathlib.Omega.{arith}
 use lib.Bits.{bitOr}
 use Rattle.std.proofs.shelf.Bits.{or-shifted}

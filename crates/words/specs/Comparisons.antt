@@ -11,7 +11,7 @@ use Rattle.words.specs.declared.condition.Condition.{Condition}
 use Rattle.words.specs.declared.condition.Condition.the-variants.{True, Zero, Negative, Overflow, Below, Above, Less, Greater, False, NotZero, NotNegative, NoOverflow, NotBelow, NotAbove, NotLess, NotGreater}
 use Rattle.words.specs.declared.flagged.Flagged.{Flagged}
 
--- the comparison of two words that a condition stands for
+-- the comparison of two words that a condition stands for; the difference's sign is wrong exactly if it overflowed
 abbrev pub compared : Condition → ℕ → ℕ → Bool
 compared True a b = true
 compared Zero a b = eqb a b

@@ -21,7 +21,7 @@ ofWord u c o = record { zero = eqb u 0; negative = ltZ (signed u) (pos 0); carry
 abbrev pub ofPair : Pair → Bool → Bool → Status
 ofPair p c o = record { zero = eqb (p .low) 0 && eqb (p .high) 0; negative = ltZ (signed (p .high)) (pos 0); carry = c; overflow = o }
 
--- the conditions as the processor defines them
+-- which conditions hold: t, 0=, 0<, ov, u<, u>, <, >, and f, 0<>, 0>=, no, u>=, u<=, >=, <=
 abbrev pub holds : Condition → Status → Bool
 holds True s = true
 holds Zero s = s .zero

@@ -1,10 +1,10 @@
 -- Numbers of 64 bits: what goes into a multiplier's latch, and what is fetched from it.
 use Prim.Native.Nat.{ℕ, _+_, _-_, _*_, _/_, _%_, _^_}
-use mathlib.Core.Bool.{Bool, not}
+use mathlib.Core.Bool.{not}
 use mathlib.Core.Path.{_≡_}
 use lib.Dec.{leb}
 use lib.IntN.{_*ℤ_}
-use mir.Val.{ofZ, toZ}
+use mir.Val.{ofZ}
 use mir.Syntax.{w64}
 use Rattle.words.specs.Words.{bit, signed}
 use Rattle.words.specs.declared.fetches.Accumulated.{Accumulated}
@@ -26,14 +26,15 @@ mul n1 n2 = ofZ w64 (signed n1 *ℤ signed n2)
 abbrev pub umul : ℕ → ℕ → ℕ
 umul u1 u2 = u1 * u2
 
--- the word below the top is the low one
+-- the number that two words are, the high one on top
 abbrev pub pass : ℕ → ℕ → ℕ
-pass dl dh = dh * 2 ^ 32 + dl
+pass dl dh = number (record { low = dl; high = dh })
 
--- the latch, and its negative
+-- the latch as it is
 abbrev pub fetch : ℕ → ℕ
 fetch latch = latch
 
+-- its negative
 abbrev pub fetchNegated : ℕ → ℕ
 fetchNegated latch = (2 ^ 64 - latch) % 2 ^ 64
 

@@ -7,10 +7,11 @@ use lib.IntN.{ℤ, pos, _+ℤ_}
 use Rattle.words.specs.Words.{bit, differ, signed}
 use Rattle.words.specs.declared.flagged.Flagged.{Flagged}
 
--- the lowest bit, and the highest
+-- the lowest bit
 abbrev pub lowest : ℕ → Bool
 lowest u = eqb (u % 2) 1
 
+-- the highest bit, the sign
 abbrev pub highest : ℕ → Bool
 highest u = leb (2 ^ 31) u
 
@@ -22,29 +23,35 @@ right u h = record { word = u / 2 + 2 ^ 31 * bit h; carry = lowest u; overflow =
 abbrev pub left : ℕ → Bool → Flagged
 left u l = record { word = (u * 2 + bit l) % 2 ^ 32; carry = highest u; overflow = false }
 
--- the sign stays
+-- arithmetic: the sign stays
 abbrev pub asr : ℕ → Flagged
 asr u = right u (highest u)
 
+-- logical: 0 comes in
 abbrev pub lsr : ℕ → Flagged
 lsr u = right u false
 
+-- the bit that leaves comes in
 abbrev pub ror : ℕ → Flagged
 ror u = right u (lowest u)
 
+-- the carry comes in
 abbrev pub rorc : ℕ → Bool → Flagged
 rorc u c = right u c
 
--- overflow: the sign changed
-abbrev pub asl : ℕ → Flagged
-asl u = record { word = (u * 2) % 2 ^ 32; carry = highest u; overflow = differ (highest u) (highest ((u * 2) % 2 ^ 32)) }
-
+-- logical: 0 comes in
 abbrev pub lsl : ℕ → Flagged
 lsl u = left u false
 
+-- arithmetic: 0 comes in, and overflow says that the sign changed
+abbrev pub asl : ℕ → Flagged
+asl u = record { word = lsl u .word; carry = highest u; overflow = differ (highest u) (highest (lsl u .word)) }
+
+-- the bit that leaves comes in
 abbrev pub rol : ℕ → Flagged
 rol u = left u (highest u)
 
+-- the carry comes in
 abbrev pub rolc : ℕ → Bool → Flagged
 rolc u c = left u c
 

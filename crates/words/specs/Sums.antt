@@ -7,7 +7,7 @@ use lib.IntN.{ℤ, pos, _+ℤ_, _-ℤ_}
 use Rattle.words.specs.Words.{bit, outside, signed}
 use Rattle.words.specs.declared.flagged.Flagged.{Flagged}
 
--- n1 + n2 + c
+-- n1 + n2 + c; the carry is set if u1 + u2 + c does not fit the word
 abbrev pub addc : ℕ → ℕ → Bool → Flagged
 addc u1 u2 c = record {
   word = (u1 + u2 + bit c) % 2 ^ 32;
@@ -27,13 +27,15 @@ subc u1 u2 c = record {
 abbrev pub subcr : ℕ → ℕ → Bool → Flagged
 subcr u1 u2 c = subc u2 u1 c
 
--- n1 + n2, n1 − n2 and n2 − n1
+-- n1 + n2
 abbrev pub add : ℕ → ℕ → Flagged
 add u1 u2 = addc u1 u2 false
 
+-- n1 − n2
 abbrev pub sub : ℕ → ℕ → Flagged
 sub u1 u2 = subc u1 u2 false
 
+-- n2 − n1
 abbrev pub subr : ℕ → ℕ → Flagged
 subr u1 u2 = sub u2 u1
 

@@ -1,7 +1,6 @@
 -- How a word is read. A word is a number u below 2 ^ 32; read as signed, it is the number n.
 use Prim.Native.Nat.{ℕ, _-_, _^_}
 use mathlib.Core.Bool.{Bool, true, false, not, cond, _||_}
-use lib.Dec.{leb}
 use lib.IntN.{ℤ, pos, negsuc}
 use lib.Signed.{ltZ, leZ}
 use mir.Val.{toZ}

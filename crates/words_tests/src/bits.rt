@@ -1,5 +1,9 @@
 use std::test::*;
-use words::bits::{and, ff1, or, popc, xor};
+use words::bits::and;
+use words::bits::ff1;
+use words::bits::or;
+use words::bits::popc;
+use words::bits::xor;
 
 #[test]
 fn combined() -> Result<(), Fail> {

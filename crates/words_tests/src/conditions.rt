@@ -1,7 +1,10 @@
 use std::test::*;
 use words::condition::Condition;
 use words::pair::Pair;
-use words::status::{flag_word, Status, StatusDebug, StatusPartialEq};
+use words::status::Status;
+use words::status::StatusDebug;
+use words::status::StatusPartialEq;
+use words::status::flag_word;
 use words::sums::sub;
 
 // The first eight conditions, each with its opposite.
@@ -21,9 +24,21 @@ const COMPARED: [(u32, u32, [bool; 8]); 6] = [
     (5, 7, [true, false, true, false, true, false, true, false]),
     (7, 5, [true, false, false, false, false, true, false, true]),
     (5, 5, [true, true, false, false, false, false, false, false]),
-    (0x7FFF_FFFF, 0xFFFF_FFFF, [true, false, true, true, true, false, false, true]),
-    (0x8000_0000, 1, [true, false, false, true, false, true, true, false]),
-    (1, 0xFFFF_FFFF, [true, false, false, false, true, false, false, true]),
+    (
+        0x7FFF_FFFF,
+        0xFFFF_FFFF,
+        [true, false, true, true, true, false, false, true],
+    ),
+    (
+        0x8000_0000,
+        1,
+        [true, false, false, true, false, true, true, false],
+    ),
+    (
+        1,
+        0xFFFF_FFFF,
+        [true, false, false, false, true, false, false, true],
+    ),
 ];
 
 #[test]
@@ -42,10 +57,24 @@ fn compared() -> Result<(), Fail> {
 // A pair is 0 only if both its words are, and its sign is that of the high word.
 #[test]
 fn of_a_pair() -> Result<(), Fail> {
-    let rows = [(0, 0, true, false), (1, 0, false, false), (0, 1, false, false), (0x8000_0000, 0, false, false), (0, 0x8000_0000, false, true)];
+    let rows = [
+        (0, 0, true, false),
+        (1, 0, false, false),
+        (0, 1, false, false),
+        (0x8000_0000, 0, false, false),
+        (0, 0x8000_0000, false, true),
+    ];
     for (low, high, zero, negative) in rows {
         let status = Status::of_pair(Pair { low, high }, true, false);
-        check_eq(status, Status { zero, negative, carry: true, overflow: false })?;
+        check_eq(
+            status,
+            Status {
+                zero,
+                negative,
+                carry: true,
+                overflow: false,
+            },
+        )?;
     }
     Ok(())
 }

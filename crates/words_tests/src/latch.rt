@@ -1,7 +1,17 @@
 use std::test::*;
-use words::fetches::{fetch, fetch_added, fetch_negated, fetch_subtracted, Accumulated, AccumulatedDebug, AccumulatedPartialEq};
-use words::pair::{Pair, PairDebug, PairPartialEq};
-use words::products::{mul, pass, umul};
+use words::fetches::Accumulated;
+use words::fetches::AccumulatedDebug;
+use words::fetches::AccumulatedPartialEq;
+use words::fetches::fetch;
+use words::fetches::fetch_added;
+use words::fetches::fetch_negated;
+use words::fetches::fetch_subtracted;
+use words::pair::Pair;
+use words::pair::PairDebug;
+use words::pair::PairPartialEq;
+use words::products::mul;
+use words::products::pass;
+use words::products::umul;
 
 const ONES: u64 = 0xFFFF_FFFF_FFFF_FFFF;
 
@@ -12,8 +22,18 @@ fn multiplied() -> Result<(), Fail> {
         (0, 0xFFFF_FFFF, 0, 0),
         (0xFFFF_FFFE, 3, 0xFFFF_FFFF_FFFF_FFFA, 0x2_FFFF_FFFA),
         (0xFFFF_FFFF, 0xFFFF_FFFF, 1, 0xFFFF_FFFE_0000_0001),
-        (0x8000_0000, 0x8000_0000, 0x4000_0000_0000_0000, 0x4000_0000_0000_0000),
-        (0x7FFF_FFFF, 0x8000_0000, 0xC000_0000_8000_0000, 0x3FFF_FFFF_8000_0000),
+        (
+            0x8000_0000,
+            0x8000_0000,
+            0x4000_0000_0000_0000,
+            0x4000_0000_0000_0000,
+        ),
+        (
+            0x7FFF_FFFF,
+            0x8000_0000,
+            0xC000_0000_8000_0000,
+            0x3FFF_FFFF_8000_0000,
+        ),
     ];
     for (a, b, signed, unsigned) in rows {
         check_eq(mul(a, b), signed)?;
@@ -25,13 +45,24 @@ fn multiplied() -> Result<(), Fail> {
 #[test]
 fn in_two_words() -> Result<(), Fail> {
     check_eq(pass(1, 2), 0x2_0000_0001)?;
-    check_eq(Pair { low: 0xFFFF_FFFA, high: 0xFFFF_FFFF }.number(), 0xFFFF_FFFF_FFFF_FFFA)?;
+    check_eq(
+        Pair {
+            low: 0xFFFF_FFFA,
+            high: 0xFFFF_FFFF,
+        }.number(),
+        0xFFFF_FFFF_FFFF_FFFA,
+    )?;
     check_eq(Pair::of(0x2_0000_0001), Pair { low: 1, high: 2 })
 }
 
 #[test]
 fn fetched() -> Result<(), Fail> {
-    for (latch, negated) in [(0, 0), (1, ONES), (6, 0xFFFF_FFFF_FFFF_FFFA), (0x8000_0000_0000_0000, 0x8000_0000_0000_0000)] {
+    for (latch, negated) in [
+        (0, 0),
+        (1, ONES),
+        (6, 0xFFFF_FFFF_FFFF_FFFA),
+        (0x8000_0000_0000_0000, 0x8000_0000_0000_0000),
+    ] {
         check_eq(fetch(latch), latch)?;
         check_eq(fetch_negated(latch), negated)?;
     }
@@ -48,7 +79,14 @@ fn accumulated() -> Result<(), Fail> {
         (1, ONES, 0xFFFF_FFFF, 0, true, 0),
     ];
     for (latch, d, before, value, carry, count) in added {
-        check_eq(fetch_added(latch, d, before), Accumulated { value, carry, count })?;
+        check_eq(
+            fetch_added(latch, d, before),
+            Accumulated {
+                value,
+                carry,
+                count,
+            },
+        )?;
     }
     let subtracted = [
         (1, 5, 7, 4, true, 7),
@@ -57,7 +95,14 @@ fn accumulated() -> Result<(), Fail> {
         (ONES, 0, 0, 1, false, 0xFFFF_FFFF),
     ];
     for (latch, d, before, value, carry, count) in subtracted {
-        check_eq(fetch_subtracted(latch, d, before), Accumulated { value, carry, count })?;
+        check_eq(
+            fetch_subtracted(latch, d, before),
+            Accumulated {
+                value,
+                carry,
+                count,
+            },
+        )?;
     }
     Ok(())
 }

@@ -1,6 +1,15 @@
 use std::test::*;
-use words::flagged::{Flagged, FlaggedDebug, FlaggedPartialEq};
-use words::shifts::{asl, asr, lsl, lsr, rol, rolc, ror, rorc};
+use words::flagged::Flagged;
+use words::flagged::FlaggedDebug;
+use words::flagged::FlaggedPartialEq;
+use words::shifts::asl;
+use words::shifts::asr;
+use words::shifts::lsl;
+use words::shifts::lsr;
+use words::shifts::rol;
+use words::shifts::rolc;
+use words::shifts::ror;
+use words::shifts::rorc;
 
 // A word, with the word and the carry that come of it; the overflow is clear.
 type Row = (u32, u32, bool);
@@ -65,7 +74,11 @@ const ROTATED_LEFT: [Row; 5] = [
 ];
 
 fn clear(word: u32, carry: bool) -> Flagged {
-    Flagged { word, carry, overflow: false }
+    Flagged {
+        word,
+        carry,
+        overflow: false,
+    }
 }
 
 #[test]
@@ -120,7 +133,14 @@ fn doubled() -> Result<(), Fail> {
         (0xFFFF_FFFF, 0xFFFF_FFFE, true, false),
     ];
     for (n, word, carry, overflow) in rows {
-        check_eq(asl(n), Flagged { word, carry, overflow })?;
+        check_eq(
+            asl(n),
+            Flagged {
+                word,
+                carry,
+                overflow,
+            },
+        )?;
     }
     Ok(())
 }

@@ -1,6 +1,13 @@
 use std::test::*;
-use words::flagged::{Flagged, FlaggedDebug, FlaggedPartialEq};
-use words::sums::{add, addc, sub, subc, subcr, subr};
+use words::flagged::Flagged;
+use words::flagged::FlaggedDebug;
+use words::flagged::FlaggedPartialEq;
+use words::sums::add;
+use words::sums::addc;
+use words::sums::sub;
+use words::sums::subc;
+use words::sums::subcr;
+use words::sums::subr;
 
 // n1 and n2, with the word, the carry and the overflow that come of them.
 type Row = (u32, u32, u32, bool, bool);
@@ -52,7 +59,11 @@ const SUBTRACTED_MORE: [Row; 7] = [
 #[test]
 fn added() -> Result<(), Fail> {
     for (n1, n2, word, carry, overflow) in ADDED {
-        let expected = Flagged { word, carry, overflow };
+        let expected = Flagged {
+            word,
+            carry,
+            overflow,
+        };
         check_eq(add(n1, n2), expected)?;
         check_eq(add(n2, n1), expected)?;
         check_eq(addc(n1, n2, false), expected)?;
@@ -63,7 +74,11 @@ fn added() -> Result<(), Fail> {
 #[test]
 fn subtracted() -> Result<(), Fail> {
     for (n1, n2, word, carry, overflow) in SUBTRACTED {
-        let expected = Flagged { word, carry, overflow };
+        let expected = Flagged {
+            word,
+            carry,
+            overflow,
+        };
         check_eq(sub(n1, n2), expected)?;
         check_eq(subr(n2, n1), expected)?;
         check_eq(subc(n1, n2, false), expected)?;
@@ -75,10 +90,21 @@ fn subtracted() -> Result<(), Fail> {
 #[test]
 fn with_a_carry() -> Result<(), Fail> {
     for (n1, n2, word, carry, overflow) in ADDED_MORE {
-        check_eq(addc(n1, n2, true), Flagged { word, carry, overflow })?;
+        check_eq(
+            addc(n1, n2, true),
+            Flagged {
+                word,
+                carry,
+                overflow,
+            },
+        )?;
     }
     for (n1, n2, word, carry, overflow) in SUBTRACTED_MORE {
-        let expected = Flagged { word, carry, overflow };
+        let expected = Flagged {
+            word,
+            carry,
+            overflow,
+        };
         check_eq(subc(n1, n2, true), expected)?;
         check_eq(subcr(n2, n1, true), expected)?;
     }

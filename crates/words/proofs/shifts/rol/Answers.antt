@@ -1,7 +1,4 @@
-use mathlib.Core.Path.{_≡_, _∙_}
-use Prim.Native.Nat.{_%_, _^_}
 use native.Mathlib.Omega.{arith}
-use Rattle.words.specs.Shifts.{rol}
 use Rattle.words.proofs.Rotations.{rotated-left, left-back}
 use Rattle.words.proofs.shifts.rol.Needs as need
 
