@@ -27,6 +27,20 @@ fn is_outside(z: i64) -> bool
     z < -0x8000_0000 || z >= 0x8000_0000
 }
 
+// The exact signed sum.
+fn sum(n1: u32, n2: u32, c: bool) -> i64
+    ensures { λ r. ⌜ r ≡ signed n1 +ℤ signed n2 +ℤ pos (bit c) ⌝ }
+{
+    signed_word(n1) + signed_word(n2) + one_if(c) as i64
+}
+
+// The exact signed difference.
+fn difference(n1: u32, n2: u32, c: bool) -> i64
+    ensures { λ r. ⌜ r ≡ signed n1 -ℤ signed n2 +ℤ pos (bit c) ⌝ }
+{
+    signed_word(n1) - signed_word(n2) + one_if(c) as i64
+}
+
 pub fn addc(n1: u32, n2: u32, c: bool) -> Flagged
     ensures value { λ r. ⌜ r ≡ addc n1 n2 c ⌝ }
     ensures carries { λ r. ⌜ CarryExact (n1 + n2 + bit c) r ⌝ }
@@ -36,7 +50,7 @@ pub fn addc(n1: u32, n2: u32, c: bool) -> Flagged
     Flagged {
         word: n1.wrapping_add(n2).wrapping_add(more),
         carry: n1 as u64 + n2 as u64 + more as u64 >= 0x1_0000_0000,
-        overflow: is_outside(signed_word(n1) + signed_word(n2) + more as i64),
+        overflow: is_outside(sum(n1, n2, c)),
     }
 }
 
@@ -48,7 +62,7 @@ pub fn subc(n1: u32, n2: u32, c: bool) -> Flagged
     Flagged {
         word: n1.wrapping_sub(n2).wrapping_add(more),
         carry: n1 as u64 + more as u64 >= n2 as u64,
-        overflow: is_outside(signed_word(n1) - signed_word(n2) + more as i64),
+        overflow: is_outside(difference(n1, n2, c)),
     }
 }
 
