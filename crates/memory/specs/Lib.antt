@@ -1,0 +1,4 @@
+pub mod Refusals
+pub mod Cells
+pub mod Works
+pub mod LawfulWorks
