@@ -1,3 +1,4 @@
 pub mod Answers
 pub mod Opens
 pub mod Joining
+pub mod Laws
