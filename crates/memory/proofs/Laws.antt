@@ -1,7 +1,7 @@
 -- The laws of memory that code above it cites: they speak of answers and of what is held, and unfold nothing.
 use mathlib.Core.Bool.{Bool, true, false}
 use mathlib.Core.List.{List, map}
-use mathlib.Core.Logic.{⊎-elim}
+use mathlib.Core.Logic.{_⊎_, inl, inr, ⊎-elim}
 use mathlib.Core.Path.{_≡_, refl, sym, ap, subst, _∙_}
 use Prim.Native.Nat.{ℕ, _≤_, _<_}
 use native.Mathlib.Omega.{arith}
@@ -27,6 +27,11 @@ not-spoiled : (m : Mark) → (m ≡ marks.Spoiled → ⊥) → isSound m ≡ tru
 not-spoiled marks.Open ne = refl
 not-spoiled marks.Kept ne = refl
 not-spoiled marks.Spoiled ne = absurd (ne refl)
+
+is-spoiled : (m : Mark) → (m ≡ marks.Spoiled) ⊎ (m ≡ marks.Spoiled → ⊥)
+is-spoiled marks.Open = inr (λ e. let z : _≡_ {A = ℕ} 0 1 = cc in omega arith)
+is-spoiled marks.Kept = inr (λ e. let z : _≡_ {A = ℕ} 0 1 = cc in omega arith)
+is-spoiled marks.Spoiled = inl refl
 
 module _ (cells : List Cell) (at : ℕ) (here : at < length cells) where
   pub reads : (cellAt cells at .mark ≡ marks.Spoiled → ⊥) → readOut cells at ≡ Ok (cellAt cells at .byte)
@@ -142,3 +147,100 @@ module _ (cells : List Cell) (at byte : ℕ) where
   pub read-other : (i : ℕ) → (i ≡ at → ⊥) → readOut (written cells at byte) i ≡ readOut cells i
   unfolding readOut
   read-other i apart = simp (written-length, written-other i apart)
+
+-- Two writes.
+
+pub written-twice : (cells : List Cell) (at a b : ℕ) → written (written cells at a) at b ≡ written cells at b
+written-twice cells at a b =
+    written-either cells at b (λ after. written (written cells at a) at b ≡ after)
+    (λ ok.
+    written-accepted (written cells at a) at b (wrote-written cells at a at ∙ ok)
+    ∙ ap (λ cs. set cs at (openCell b)) (written-accepted cells at a ok)
+    ∙ set-set cells at (openCell a) (openCell b))
+    (λ r refused. written-refused (written cells at a) at b r (wrote-written cells at a at ∙ refused) ∙ written-refused cells at a r refused)
+
+module _ (cells : List Cell) (i j a b : ℕ) (apart : i ≡ j → ⊥) where
+  both : wrote cells i ≡ Ok tt → wrote cells j ≡ Ok tt → written (written cells i a) j b ≡ written (written cells j b) i a
+  both p q =
+      written-accepted (written cells i a) j b (wrote-written cells i a j ∙ q)
+      ∙ ap (λ cs. set cs j (openCell b)) (written-accepted cells i a p)
+      ∙ set-comm cells i j (openCell a) (openCell b) apart
+      ∙ sym (written-accepted (written cells j b) i a (wrote-written cells j b i ∙ p) ∙ ap (λ cs. set cs i (openCell a)) (written-accepted cells j b q))
+
+  second-refused : (r : MemoryRefusal) → wrote cells j ≡ Err r → written (written cells i a) j b ≡ written (written cells j b) i a
+  second-refused r q = written-refused (written cells i a) j b r (wrote-written cells i a j ∙ q) ∙ ap (λ cs. written cs i a) (sym (written-refused cells j b r q))
+
+  first-refused : (r : MemoryRefusal) → wrote cells i ≡ Err r → written (written cells i a) j b ≡ written (written cells j b) i a
+  first-refused r p = ap (λ cs. written cs j b) (written-refused cells i a r p) ∙ sym (written-refused (written cells j b) i a r (wrote-written cells j b i ∙ p))
+
+  -- writes to two addresses may change places
+  pub written-apart : written (written cells i a) j b ≡ written (written cells j b) i a
+  written-apart =
+      written-either cells i a (λ _. written (written cells i a) j b ≡ written (written cells j b) i a)
+      (λ p. written-either cells j b (λ _. written (written cells i a) j b ≡ written (written cells j b) i a) (both p) second-refused)
+      first-refused
+
+-- A write keeps a memory lawful.
+
+pub lawful-written : (cells : List Cell) (at byte : ℕ) → Lawful cells → Lawful (written cells at byte)
+lawful-written cells at byte lawful = record {
+  bounded = rw written-length (lawful .bounded);
+  zeroed = λ i spoiled.
+      let before = marks-at (written cells at byte) cells (written-marks cells at byte) i in
+      ⊎-elim
+      (λ (e : i ≡ at).
+      written-either cells at byte (λ after. cellAt after i .byte ≡ 0)
+      (λ ok. let o = accepted-open cells at byte ok in absurd (let z : _≡_ {A = ℕ} 0 1 = cc in omega arith))
+      (λ r refused. lawful .zeroed i (sym before ∙ spoiled)))
+      (λ (apart : i ≡ at → ⊥). ap (λ c. c .byte) (written-other cells at byte i apart) ∙ lawful .zeroed i (sym before ∙ spoiled))
+      (cases-eq i at);
+}
+
+-- What answers say of the address and its mark: what holds of each answer where it is given holds of the answer.
+
+module _ (cells : List Cell) (at : ℕ) where
+  pub marked-cases : (P : Result Mark MemoryRefusal → Type 0)
+      → (length cells ≤ at → P (Err refusals.OutOfRange))
+      → (at < length cells → P (Ok (cellAt cells at .mark)))
+      → P (marked cells at)
+  marked-cases P outside inside =
+      ⊎-elim
+      (λ (here : at < length cells). subst P (sym (answers.marked-inside cells at here)) (inside here))
+      (λ (out : length cells ≤ at). subst P (sym (answers.marked-outside cells at out)) (outside out))
+      (cases-lt at (length cells))
+
+  pub read-cases : (P : Result ℕ MemoryRefusal → Type 0)
+      → (length cells ≤ at → P (Err refusals.OutOfRange))
+      → (at < length cells → cellAt cells at .mark ≡ marks.Spoiled → P (Err refusals.Spoiled))
+      → (at < length cells → (cellAt cells at .mark ≡ marks.Spoiled → ⊥) → P (Ok (cellAt cells at .byte)))
+      → P (readOut cells at)
+  read-cases P outside spoiled sound =
+      ⊎-elim
+      (λ (here : at < length cells).
+      ⊎-elim
+      (λ (e : cellAt cells at .mark ≡ marks.Spoiled). subst P (sym (reads-spoiled cells at here e)) (spoiled here e))
+      (λ (ne : cellAt cells at .mark ≡ marks.Spoiled → ⊥). subst P (sym (reads cells at here ne)) (sound here ne))
+      (is-spoiled (cellAt cells at .mark)))
+      (λ (out : length cells ≤ at). subst P (sym (answers.read-outside cells at out)) (outside out))
+      (cases-lt at (length cells))
+
+  wrote-inside : (P : Result (Unit {0}) MemoryRefusal → Type 0) → at < length cells
+      → (cellAt cells at .mark ≡ marks.Spoiled → P (Err refusals.Spoiled))
+      → (cellAt cells at .mark ≡ marks.Kept → P (Err refusals.NotOpen))
+      → (cellAt cells at .mark ≡ marks.Open → P (Ok tt))
+      → (m : Mark) → cellAt cells at .mark ≡ m → P (wrote cells at)
+  wrote-inside P here spoiled kept free marks.Open e = subst P (sym (writes cells at here e)) (free e)
+  wrote-inside P here spoiled kept free marks.Kept e = subst P (sym (writes-kept cells at here e)) (kept e)
+  wrote-inside P here spoiled kept free marks.Spoiled e = subst P (sym (writes-spoiled cells at here e)) (spoiled e)
+
+  pub wrote-cases : (P : Result (Unit {0}) MemoryRefusal → Type 0)
+      → (length cells ≤ at → P (Err refusals.OutOfRange))
+      → (at < length cells → cellAt cells at .mark ≡ marks.Spoiled → P (Err refusals.Spoiled))
+      → (at < length cells → cellAt cells at .mark ≡ marks.Kept → P (Err refusals.NotOpen))
+      → (at < length cells → cellAt cells at .mark ≡ marks.Open → P (Ok tt))
+      → P (wrote cells at)
+  wrote-cases P outside spoiled kept free =
+      ⊎-elim
+      (λ (here : at < length cells). wrote-inside P here (spoiled here) (kept here) (free here) (cellAt cells at .mark) refl)
+      (λ (out : length cells ≤ at). subst P (sym (answers.wrote-outside cells at out)) (outside out))
+      (cases-lt at (length cells))

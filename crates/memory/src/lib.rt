@@ -4,4 +4,5 @@ pub mod lent;
 pub mod marks;
 pub mod meaning;
 pub mod refusals;
+pub mod sentences;
 pub mod works;
