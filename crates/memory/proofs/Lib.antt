@@ -3,3 +3,4 @@ pub mod Opens
 pub mod Joining
 pub mod Laws
 pub mod Ruling
+pub mod Lending

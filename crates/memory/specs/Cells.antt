@@ -50,6 +50,10 @@ cellAt cells at = getD cells at spoiledCell
 abbrev pub marksOf : List Cell → List Mark
 marksOf cells = map (λ c. c .mark) cells
 
+-- the bytes alone, in order
+abbrev pub bytesOf : List Cell → List ℕ
+bytesOf cells = map (λ c. c .byte) cells
+
 -- what every memory keeps: it has at most 4,194,304 bytes, and a spoiled one is listed as 0
 pub record Lawful (cells : List Cell) : Type 0 where
   pub bounded : length cells ≤ 4194304

@@ -1,5 +1,6 @@
 // Memories by their meaning: the trait, the caller's bytes, a memory behind another, and memories that are lent.
 pub mod joins;
+pub mod lenders;
 pub mod lent;
 pub mod marks;
 pub mod meaning;
