@@ -53,23 +53,26 @@ untouched F None new old e = e
 untouched F (Some r) new old e = refl
 
 pub length-joined : (f b : List Cell) → length (joined f b) ≡ min (length f + length b) 4194304
+unfolding joined
 length-joined f b = simp (length-take, length-append) (omega arith)
 
 module _ (f b : List Cell) (at : ℕ) (low : at < 4194304) where
   pub in-front : at < length f → Same f (joined f b) at at
+  unfolding joined
   in-front h = record {
     reach = lt-ltb at (length f) h ∙ sym (lt-ltb at (length (joined f b)) (omega (arith, length-joined f b)));
     cell = sym (getD-take 4194304 (f ++ b) at spoiledCell low ∙ getD-append-left f b spoiledCell at h);
   }
 
   pub in-back : length f ≤ at → Same b (joined f b) (at - length f) at
+  unfolding joined
   in-back h = record {
     reach = ltb-same (at - length f) (length b) at (length (joined f b)) (λ k. omega (arith, length-joined f b)) (λ k. omega (arith, length-joined f b));
     cell = sym (getD-take 4194304 (f ++ b) at spoiledCell low ∙ getD-append-right f b (length f) at spoiledCell refl h);
   }
 
   pub front-written : (byte : ℕ) → at < length f → joined (written f at byte) b ≡ written (joined f b) at byte
-  unfolding written
+  unfolding written joined
   front-written byte h =
       let put : joined (set f at (openCell byte)) b ≡ set (joined f b) at (openCell byte) =
       ap (take 4194304) (sym (set-append-left f b at (openCell byte) h)) ∙ take-set-lt 4194304 (f ++ b) at (openCell byte) low in
@@ -78,7 +81,7 @@ module _ (f b : List Cell) (at : ℕ) (low : at < 4194304) where
       ∙ ap (λ o. heldAfter o (set (joined f b) at (openCell byte)) (joined f b)) (same-asks f (joined f b) at at (in-front h))
 
   pub back-written : (byte : ℕ) → length f ≤ at → joined f (written b (at - length f) byte) ≡ written (joined f b) at byte
-  unfolding written
+  unfolding written joined
   back-written byte h =
       let put : joined f (set b (at - length f) (openCell byte)) ≡ set (joined f b) at (openCell byte) =
       ap (take 4194304) (sym (set-append-right f b (length f) at (openCell byte) refl h)) ∙ take-set-lt 4194304 (f ++ b) at (openCell byte) low in
@@ -87,13 +90,13 @@ module _ (f b : List Cell) (at : ℕ) (low : at < 4194304) where
       ∙ ap (λ o. heldAfter o (set (joined f b) at (openCell byte)) (joined f b)) (same-asks b (joined f b) (at - length f) at (in-back h))
 
   pub front-cut : (byte : ℕ) → at < length f → cutOff f b ≡ cutOff (written f at byte) b
-  unfolding written
+  unfolding written cutOff
   front-cut byte h =
       sym (untouched (λ x. cutOff x b) (writeAsks f at) (set f at (openCell byte)) f
       (ap (drop 4194304) (sym (set-append-left f b at (openCell byte) h)) ∙ drop-set-lt 4194304 (f ++ b) at (openCell byte) low))
 
   pub back-cut : (byte : ℕ) → length f ≤ at → cutOff f b ≡ cutOff f (written b (at - length f) byte)
-  unfolding written
+  unfolding written cutOff
   back-cut byte h =
       sym (untouched (cutOff f) (writeAsks b (at - length f)) (set b (at - length f) (openCell byte)) b
       (ap (drop 4194304) (sym (set-append-right f b (length f) at (openCell byte) refl h)) ∙ drop-set-lt 4194304 (f ++ b) at (openCell byte) low))

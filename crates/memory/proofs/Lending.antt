@@ -47,11 +47,13 @@ bytes-open (x ∷ xs) = ap (λ l. x ∷ l) (bytes-open xs)
 
 -- the caller's bytes are the bytes of the cells that they came to mean
 pub bytes-back : (bytes : List ℕ) (cells : List Cell) → length bytes ≤ 4194304 → openCells bytes ≡ cells → bytes ≡ bytesOf cells
+unfolding openCells
 bytes-back bytes cells few e = sym (take-all 4194304 bytes few) ∙ sym (bytes-open (take 4194304 bytes)) ∙ ap bytesOf e
 
 -- the lenders f and b became g and c while the whole became another
 module _ (f b g c whole : List Cell) (marks : marksOf f ≡ marksOf g) (cut : cutOff f b ≡ cutOff g c) (is : joined g c ≡ whole) where
   all : g ++ c ≡ whole ++ cutOff f b
+  unfolding joined cutOff
   all = sym (take-append-drop 4194304 (g ++ c)) ∙ ap (λ w. w ++ cutOff g c) is ∙ ap (λ l. whole ++ l) (sym cut)
 
   pub front-after : g ≡ frontAfter f b whole

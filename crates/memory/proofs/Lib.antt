@@ -2,5 +2,4 @@ pub mod Answers
 pub mod Opens
 pub mod Joining
 pub mod Laws
-pub mod Ruling
 pub mod Lending

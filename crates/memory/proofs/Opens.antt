@@ -15,10 +15,12 @@ use Rattle.memory.specs.Works.{openCells}
 use Rattle.memory.proofs.Answers as answers
 
 pub length-opens : (xs : List ℕ) → length (openCells xs) ≡ min (length xs) 4194304
+unfolding openCells
 length-opens xs = simp (length-map, length-take) (omega arith)
 
 module _ (xs : List ℕ) (at : ℕ) (here : at < min (length xs) 4194304) where
   cell-open : cellAt (openCells xs) at ≡ openCell (getD xs at 0)
+  unfolding openCells
   cell-open =
       let l : at < length (take 4194304 xs) = simp length-take (omega arith) in
       getD-map openCell (take 4194304 xs) at 0 spoiledCell l ∙ ap openCell (getD-take 4194304 xs at 0 (omega arith))
@@ -42,6 +44,7 @@ module _ (xs : List ℕ) (at : ℕ) (here : at < min (length xs) 4194304) where
   open-wrote = sym (answers.wrote-open (openCells xs) at in-cells sound free)
 
   pub open-written : (byte : ℕ) → openCells (set xs at byte) ≡ written (openCells xs) at byte
+  unfolding openCells
   open-written byte =
       ap (map openCell) (take-set-lt 4194304 xs at byte (omega arith)) ∙ map-set openCell (take 4194304 xs) at byte
       ∙ sym (answers.written-open (openCells xs) at in-cells byte sound free)

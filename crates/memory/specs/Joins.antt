@@ -4,11 +4,11 @@ use lib.ListN.{length, take, drop}
 use Rattle.memory.specs.Cells.{Cell}
 
 -- what the two mean as one
-abbrev pub joined : List Cell → List Cell → List Cell
+unfoldable pub joined : List Cell → List Cell → List Cell
 joined front back = take 4194304 (front ++ back)
 
 -- what lies past the cut: no part of the whole, and never changed
-abbrev pub cutOff : List Cell → List Cell → List Cell
+unfoldable pub cutOff : List Cell → List Cell → List Cell
 cutOff front back = drop 4194304 (front ++ back)
 
 -- what the lender of the front holds, once the whole means something else

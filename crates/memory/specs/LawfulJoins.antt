@@ -24,6 +24,7 @@ zeroed-take (suc n) (x ∷ xs) h zero = h 0
 zeroed-take (suc n) (x ∷ xs) h (suc at) = zeroed-take n xs (λ i. h (suc i)) at
 
 pub joined-lawful : (front back : List Cell) → Lawful front → Lawful back → Lawful (joined front back)
+unfolding joined
 joined-lawful front back f b = record {
   bounded = simp length-take (omega arith);
   zeroed = zeroed-take 4194304 (front ++ back) (zeroed-append front back (f .zeroed) (b .zeroed));
@@ -35,6 +36,7 @@ marks-take (suc n) [] = refl
 marks-take (suc n) (x ∷ xs) = ap (λ l. x .mark ∷ l) (marks-take n xs)
 
 marks-joined : (front back : List Cell) → marksOf (joined front back) ≡ take 4194304 (marksOf front ++ marksOf back)
+unfolding joined
 marks-joined front back = marks-take 4194304 (front ++ back) ∙ ap (take 4194304) (map-append (λ c. c .mark) front back)
 
 pub joined-marks : (f b g c : List Cell) → marksOf f ≡ marksOf g → marksOf b ≡ marksOf c → marksOf (joined f b) ≡ marksOf (joined g c)

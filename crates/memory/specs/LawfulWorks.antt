@@ -16,6 +16,7 @@ all-sound (b ∷ bytes) zero e = absurd (let z : _≡_ {A = ℕ} 0 1 = cc in ome
 all-sound (b ∷ bytes) (suc at) e = all-sound bytes at e
 
 pub opens-lawful : (bytes : List ℕ) → Lawful (openCells bytes)
+unfolding openCells
 opens-lawful bytes = record {
   bounded = simp (length-map, length-take) (omega arith);
   zeroed = all-sound (take 4194304 bytes);
@@ -30,6 +31,7 @@ all-open (suc n) (x ∷ xs) [] e = absurd (omega arith)
 all-open (suc n) (x ∷ xs) (y ∷ ys) e = ap (λ l. marks.Open ∷ l) (all-open n xs ys (omega arith))
 
 pub opens-steady : Steady (λ bytes. openCells (bytes .now)) SameBytes
+unfolding openCells
 opens-steady = record {
   idle = λ x. record { name-is = refl; long = refl };
   onward = λ x y z p q. record { name-is = p .name-is ∙ q .name-is; long = p .long ∙ q .long };

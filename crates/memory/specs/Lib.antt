@@ -4,4 +4,3 @@ pub mod Works
 pub mod LawfulWorks
 pub mod Joins
 pub mod LawfulJoins
-pub mod Sentences

@@ -12,7 +12,7 @@ use Rattle.memory.specs.declared.refusals.WorkRefusal.the-variants.{TooLong}
 use Rattle.memory.specs.Cells.{Cell, openCell}
 
 -- what bytes mean as a memory
-abbrev pub openCells : List ℕ → List Cell
+unfoldable pub openCells : List ℕ → List Cell
 openCells bytes = map openCell (take 4194304 bytes)
 
 -- what is asked before bytes are made a memory
