@@ -1,9 +1,7 @@
 // One memory behind another, cut at the limit: their lenders hold what became of it.
 ghost use mathlib.Core.Path.{_≡_, refl, _∙_};
-ghost use Rattle.memory.specs.Cells.{wrote, written};
-ghost use Rattle.memory.specs.Joins.{joined, cutOff, frontAfter, backAfter};
+ghost use Rattle.memory.specs.Joins.{joined, cutOff};
 ghost use Rattle.memory.specs.LawfulJoins.{joined-lawful, joined-marks};
-use super::lent::LentMemory;
 use super::marks::Mark;
 use super::meaning::LIMIT;
 use super::meaning::Memory;

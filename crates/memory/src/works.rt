@@ -1,12 +1,9 @@
 // The caller's bytes as a memory, all open.
 ghost use denote.Ref.{now as held, name};
 ghost use mathlib.Core.Path.{_≡_};
-ghost use lib.ListN.{length};
-ghost use Prim.Native.Nat.{min};
 ghost use Rattle.std.specs.Results.{Cases};
 ghost use Rattle.std.specs.declared.option.Option.the-variants.{Some, None};
 ghost use Rattle.questions.specs.Questions.{answered};
-ghost use Rattle.memory.specs.Cells.{wrote, written};
 ghost use Rattle.memory.specs.Works.{openCells, workAsks, SameBytes, Lent};
 ghost use Rattle.memory.specs.LawfulWorks.{opens-lawful, opens-steady};
 use super::marks::Mark;
@@ -45,19 +42,6 @@ impl<'a> Work<'a> {
         Work::ask(bytes)?;
         Ok(Work::over(bytes))
     }
-
-    // The bytes as the last writes left them.
-    pub fn bytes(&self) -> &[u8]
-        ensures { λ r. ⌜ now r ≡ held (now (self .entry) .bytes) ⌝ }
-    {
-        self.bytes
-    }
-
-    fn reach(&self) -> usize
-        ensures { λ r. ⌜ r ≡ min (length (held (now (self .entry) .bytes))) 4194304 ⌝ }
-    {
-        self.bytes.len().min(LIMIT)
-    }
 }
 
 pub impl<'a> Memory for Work<'a> as WorkMemory {
@@ -74,25 +58,25 @@ pub impl<'a> Memory for Work<'a> as WorkMemory {
     } };
 
     fn size(&self) -> usize {
-        self.reach()
+        self.bytes.len().min(LIMIT)
     }
 
     fn mark(&mut self, at: usize) -> Result<Mark, MemoryRefusal> {
-        if at >= self.reach() {
+        if at >= (*self).size() {
             return Err(MemoryRefusal::OutOfRange);
         }
         Ok(Mark::Open)
     }
 
     fn read(&mut self, at: usize) -> Result<u8, MemoryRefusal> {
-        if at >= self.reach() {
+        if at >= (*self).size() {
             return Err(MemoryRefusal::OutOfRange);
         }
         Ok(self.bytes[at])
     }
 
     fn write(&mut self, at: usize, byte: u8) -> Result<(), MemoryRefusal> {
-        if at >= self.reach() {
+        if at >= (*self).size() {
             return Err(MemoryRefusal::OutOfRange);
         }
         self.bytes[at] = byte;

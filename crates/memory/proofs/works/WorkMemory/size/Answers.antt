@@ -3,4 +3,4 @@ use Rattle.memory.proofs.Opens.{length-opens}
 use Rattle.memory.proofs.works.WorkMemory.size.Needs as need
 
 pub returns : need.returns
-returns c = c .reach .ensures ∙ sym (length-opens _)
+returns c = c .min .ensures ∙ sym (length-opens _)
