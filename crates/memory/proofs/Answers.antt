@@ -6,8 +6,9 @@ use Prim.Native.Nat.{ℕ, _≤_, _<_}
 use lib.ListN.{length, set}
 use Rattle.std.specs.declared.result.Result.the-variants.{Ok, Err}
 use Rattle.std.proofs.shelf.Tests.{lt-ltb, le-ltb}
+use Rattle.questions.specs.Questions.{answered}
 use Rattle.memory.specs.declared.refusals.MemoryRefusal.the-variants as refusals
-use Rattle.memory.specs.Cells.{Cell, cellAt, openCell, isOpen, isSound, marked, readOut, wrote, written}
+use Rattle.memory.specs.Cells.{Cell, cellAt, openCell, isOpen, isSound, openAsks, marked, readOut, wrote, written}
 
 module _ (cells : List Cell) (at : ℕ) (outside : length cells ≤ at) where
   pub marked-outside : marked cells at ≡ Err refusals.OutOfRange
@@ -38,6 +39,10 @@ module _ (cells : List Cell) (at : ℕ) (here : at < length cells) where
   pub read-spoiled : isSound (cellAt cells at .mark) ≡ false → readOut cells at ≡ Err refusals.Spoiled
   unfolding readOut
   read-spoiled s = simp (lt-ltb at (length cells) here, s)
+
+  pub wrote-inside : wrote cells at ≡ answered (openAsks (cellAt cells at .mark)) tt
+  unfolding wrote
+  wrote-inside = simp (lt-ltb at (length cells) here)
 
   pub wrote-open : isSound (cellAt cells at .mark) ≡ true → isOpen (cellAt cells at .mark) ≡ true → wrote cells at ≡ Ok tt
   unfolding wrote

@@ -18,7 +18,7 @@ use Rattle.memory.specs.declared.marks.Mark.{Mark}
 use Rattle.memory.specs.declared.marks.Mark.the-variants as marks
 use Rattle.memory.specs.declared.refusals.MemoryRefusal.{MemoryRefusal}
 use Rattle.memory.specs.declared.refusals.MemoryRefusal.the-variants as refusals
-use Rattle.memory.specs.Cells.{Cell, Lawful, cellAt, marksOf, openCell, spoiledCell, isOpen, isSound, writeAsks, marked, readOut, wrote, written}
+use Rattle.memory.specs.Cells.{Cell, Lawful, cellAt, marksOf, openCell, spoiledCell, isOpen, isSound, openAsks, writeAsks, marked, readOut, wrote, written}
 use Rattle.memory.proofs.Answers as answers
 
 -- Answers, by the mark itself.
@@ -243,4 +243,19 @@ module _ (cells : List Cell) (at : ℕ) where
       ⊎-elim
       (λ (here : at < length cells). wrote-inside P here (spoiled here) (kept here) (free here) (cellAt cells at .mark) refl)
       (λ (out : length cells ≤ at). subst P (sym (answers.wrote-outside cells at out)) (outside out))
+      (cases-lt at (length cells))
+
+  -- what a mark that was given says of a write
+  pub marked-given : (m : Mark) → marked cells at ≡ Ok m → wrote cells at ≡ done (openAsks m)
+  marked-given m given =
+      ⊎-elim
+      (λ (here : at < length cells). let inside = answers.marked-inside cells at here in let e : cellAt cells at .mark ≡ m = cc in answers.wrote-inside cells at here ∙ ap (λ k. done (openAsks k)) e)
+      (λ (out : length cells ≤ at). absurd (let outside = answers.marked-outside cells at out in let z : _≡_ {A = ℕ} 0 1 = cc in omega arith))
+      (cases-lt at (length cells))
+
+  pub marked-refused : (r : MemoryRefusal) → marked cells at ≡ Err r → wrote cells at ≡ Err r
+  marked-refused r refused =
+      ⊎-elim
+      (λ (here : at < length cells). absurd (let inside = answers.marked-inside cells at here in let z : _≡_ {A = ℕ} 0 1 = cc in omega arith))
+      (λ (out : length cells ≤ at). let outside = answers.marked-outside cells at out in let no′ = answers.wrote-outside cells at out in cc)
       (cases-lt at (length cells))

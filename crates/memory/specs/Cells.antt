@@ -78,6 +78,10 @@ writeAsks cells at = firstNo (
     ∷ (isOpen (cellAt cells at .mark), refusals.NotOpen)
     ∷ [])
 
+-- what is left to ask of a mark that was given, before its byte is written
+abbrev pub openAsks : Mark → Option MemoryRefusal
+openAsks mark = firstNo ((isSound mark, refusals.Spoiled) ∷ (isOpen mark, refusals.NotOpen) ∷ [])
+
 -- the answer of `mark`
 unfoldable pub marked : List Cell → ℕ → Result Mark MemoryRefusal
 marked cells at = answered (markAsks cells at) (cellAt cells at .mark)
