@@ -1,7 +1,8 @@
 // A sparse memory: a hole of spoiled bytes that takes no room, one kept byte, and sixteen open ones.
 ghost use mathlib.Core.Path.{_≡_, refl, sym, ap, _∙_};
-ghost use Prim.Native.Nat.{_≤_};
-ghost use lib.ListN.{length};
+ghost use Prim.Native.Nat.{_≤_, _<_};
+ghost use lib.ListN.{length, replicate};
+ghost use Rattle.std.specs.declared.option.Option.the-variants.{Some, None};
 ghost use Rattle.memory.specs.Cells.{marksOf};
 ghost use Rattle.memory_tests.specs.Sparse.{sparseCells};
 ghost use Rattle.memory_tests.specs.LawfulSparse.{sparse-lawful, sparse-marks};
@@ -19,7 +20,10 @@ pub struct Sparse {
 }
 
 impl Sparse {
-    pub fn new(hole: usize, stamp: u8) -> Option<Sparse> {
+    // None where it would have more bytes than a memory may have.
+    pub fn new(hole: usize, stamp: u8) -> Option<Sparse>
+        ensures { λ r. ⌜ elim r [ Some m ↦ (m .hole ≡ hole) × (m .stamp ≡ stamp) × (m .bytes ≡ replicate 16 0) | None ↦ 4194287 < hole ] ⌝ }
+    {
         if hole > 4_194_287 {
             return None;
         }
