@@ -1,0 +1,5 @@
+pub mod Answers
+pub mod Opens
+pub mod Joining
+pub mod Laws
+pub mod Lending
