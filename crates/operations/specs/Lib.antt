@@ -1,2 +1,5 @@
+pub mod Conditions
+pub mod Kinds
 pub mod Operands
+pub mod Operations
 pub mod Places
