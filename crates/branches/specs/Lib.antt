@@ -1,0 +1,5 @@
+pub mod Checks
+pub mod Near
+pub mod Offsets
+pub mod Targets
+pub mod Whole
