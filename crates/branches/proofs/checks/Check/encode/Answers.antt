@@ -5,5 +5,5 @@ pub returns : need.returns
 returns c =
     record {
       value = cc;
-      back = check-back (c .args .self) (c .number-of .result) (c .write-bit .result) (c .number-of .ensures .below) (c .number-of .ensures .back) (c .write-bit .ensures .back);
+      back = check-back (c .number-of .result) (c .write-bit .result) (c .number-of .ensures .below) (c .args .self) (c .number-of .ensures .back) (c .write-bit .ensures .back);
     }
