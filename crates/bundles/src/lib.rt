@@ -1,0 +1,2 @@
+//! Bundles: sixteen bytes, typed.
+pub mod tails;
