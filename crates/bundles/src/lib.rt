@@ -1,2 +1,3 @@
 //! Bundles: sixteen bytes, typed.
+pub mod ending;
 pub mod tails;
