@@ -52,7 +52,7 @@ targetBytes format target =
     record {
       b6 = 0;
       b7 = 0;
-      tail = record { b8 = format; b9 = 0; b10 = 0; b11 = getD target 0 0; b12 = getD target 1 0; b13 = getD target 2 0; b14 = getD target 3 0; b15 = 0 }
+      tail = record { b8 = format; b9 = 0; b10 = 0; b11 = getD target 0 0; b12 = getD target 1 0; b13 = getD target 2 0; b14 = getD target 3 0; b15 = 0 };
     }
 
 -- the bytes of a call or a jump

@@ -5,14 +5,14 @@ ghost use Rattle.std.specs.Slices.{found};
 ghost use Rattle.std.specs.declared.option.Option.the-variants.{Some};
 use super::tails::Tail;
 use super::tails::TailBytes;
-use branches::target::Target;
-use operations::operation::Operation;
-use branches::target::TargetDebug;
-use branches::target::TargetPartialEq;
 use crate::tails::TailBytesDebug;
 use crate::tails::TailBytesPartialEq;
 use crate::tails::TailDebug;
 use crate::tails::TailPartialEq;
+use branches::target::Target;
+use branches::target::TargetDebug;
+use branches::target::TargetPartialEq;
+use operations::operation::Operation;
 use operations::operation::OperationDebug;
 use operations::operation::OperationPartialEq;
 
@@ -52,7 +52,11 @@ impl Ending {
         match self {
             Ending::Slot(operation, tail) => {
                 let [b6, b7] = operation.encode();
-                EndingBytes { b6, b7, tail: tail.encode() }
+                EndingBytes {
+                    b6,
+                    b7,
+                    tail: tail.encode(),
+                }
             }
             Ending::Call(target) => encode_target(3, target),
             Ending::Jump(target) => encode_target(4, target),
@@ -86,6 +90,15 @@ fn encode_target(b8: u8, target: Target) -> EndingBytes
     ensures back { λ r. ⌜ leapTarget r ≡ Some target ⌝ }
 {
     let [b11, b12, b13, b14] = target.encode();
-    let tail = TailBytes { b8, b9: 0, b10: 0, b11, b12, b13, b14, b15: 0 };
+    let tail = TailBytes {
+        b8,
+        b9: 0,
+        b10: 0,
+        b11,
+        b12,
+        b13,
+        b14,
+        b15: 0,
+    };
     EndingBytes { b6: 0, b7: 0, tail }
 }
