@@ -3,3 +3,5 @@ pub mod Kinds
 pub mod Operands
 pub mod Operations
 pub mod Places
+pub mod Text
+pub mod Words

@@ -29,11 +29,11 @@ constantNumber constant.Greatest = 2
 constantNumber constant.Least = 3
 
 -- the word that a constant stands for
-abbrev pub constantWord : Constant → ℕ
-constantWord constant.Zero = 0
-constantWord constant.MinusOne = 2 ^ 32 - 1
-constantWord constant.Greatest = 2 ^ 31 - 1
-constantWord constant.Least = 2 ^ 31
+abbrev pub constantValue : Constant → ℕ
+constantValue constant.Zero = 0
+constantValue constant.MinusOne = 2 ^ 32 - 1
+constantValue constant.Greatest = 2 ^ 31 - 1
+constantValue constant.Least = 2 ^ 31
 
 -- a place of another stack, if both numbers name something
 abbrev pub otherPlace : Option StackNumber → Option Near → Option Source

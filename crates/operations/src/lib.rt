@@ -4,3 +4,5 @@ pub mod kinds;
 pub mod operands;
 pub mod operation;
 pub mod places;
+pub mod text;
+pub mod wording;

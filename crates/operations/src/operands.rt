@@ -1,7 +1,7 @@
 // Second operands: places in stacks, and four constants.
 ghost use mathlib.Core.Path.{_≡_};
 ghost use Prim.Native.Nat.{_<_};
-ghost use Rattle.operations.specs.Operands.{constantNumber, constants, constantWord, decodedOperand, decodedSource, encodedOperand, encodedSource, sourceOperand};
+ghost use Rattle.operations.specs.Operands.{constantNumber, constants, constantValue, decodedOperand, decodedSource, encodedOperand, encodedSource, sourceOperand};
 ghost use Rattle.std.specs.Slices.{found};
 ghost use Rattle.std.specs.declared.option.Option.the-variants.{Some};
 ghost use Rattle.std.specs.shelf.Maps.{nth};
@@ -46,7 +46,7 @@ impl Constant {
     }
 
     pub fn word(self) -> u32
-        ensures { λ r. ⌜ r ≡ constantWord self ⌝ }
+        ensures { λ r. ⌜ r ≡ constantValue self ⌝ }
     {
         match self {
             Constant::Zero => 0,
