@@ -2,3 +2,5 @@
 pub mod moving;
 pub mod parts;
 pub mod selectors;
+pub mod side;
+pub mod text;
