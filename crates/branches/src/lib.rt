@@ -4,3 +4,4 @@ pub mod checks;
 pub mod offset;
 pub mod stacks;
 pub mod target;
+pub mod text;
