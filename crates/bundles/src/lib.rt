@@ -2,3 +2,4 @@
 pub mod bundle;
 pub mod ending;
 pub mod tails;
+pub mod text;
