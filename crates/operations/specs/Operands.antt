@@ -19,21 +19,21 @@ use Rattle.std.specs.shelf.Maps.{nth}
 
 -- the constants in order
 abbrev pub constants : List Constant
-constants = constant.Zero ∷ constant.MinusOne ∷ constant.Greatest ∷ constant.Least ∷ []
+constants = constant.Zero ∷ constant.MinusOne ∷ constant.Max ∷ constant.Min ∷ []
 
 -- a constant's place in that order
 abbrev pub constantNumber : Constant → ℕ
 constantNumber constant.Zero = 0
 constantNumber constant.MinusOne = 1
-constantNumber constant.Greatest = 2
-constantNumber constant.Least = 3
+constantNumber constant.Max = 2
+constantNumber constant.Min = 3
 
 -- the word that a constant stands for
 abbrev pub constantValue : Constant → ℕ
 constantValue constant.Zero = 0
 constantValue constant.MinusOne = 2 ^ 32 - 1
-constantValue constant.Greatest = 2 ^ 31 - 1
-constantValue constant.Least = 2 ^ 31
+constantValue constant.Max = 2 ^ 31 - 1
+constantValue constant.Min = 2 ^ 31
 
 -- a place of another stack, if both numbers name something
 abbrev pub otherPlace : Option StackNumber → Option Near → Option Source

@@ -71,8 +71,8 @@ fetchWord fetch.Subtracted = codes "-mul@+"
 abbrev pub constantWord : Constant → List ℕ
 constantWord constant.Zero = codes "#0"
 constantWord constant.MinusOne = codes "#-1"
-constantWord constant.Greatest = codes "#$7FFFFFFF"
-constantWord constant.Least = codes "#$80000000"
+constantWord constant.Max = codes "#$7FFFFFFF"
+constantWord constant.Min = codes "#$80000000"
 
 -- of the conditions
 abbrev pub conditionWord : Condition → List ℕ

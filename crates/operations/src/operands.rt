@@ -19,8 +19,8 @@ use crate::places::StackNumberPartialEq;
 pub enum Constant {
     Zero,
     MinusOne,
-    Greatest,
-    Least,
+    Max,
+    Min,
 }
 
 impl Constant {
@@ -31,8 +31,8 @@ impl Constant {
         match number {
             0 => Some(Constant::Zero),
             1 => Some(Constant::MinusOne),
-            2 => Some(Constant::Greatest),
-            3 => Some(Constant::Least),
+            2 => Some(Constant::Max),
+            3 => Some(Constant::Min),
             _ => None,
         }
     }
@@ -51,8 +51,8 @@ impl Constant {
         match self {
             Constant::Zero => 0,
             Constant::MinusOne => 0xffff_ffff,
-            Constant::Greatest => 0x7fff_ffff,
-            Constant::Least => 0x8000_0000,
+            Constant::Max => 0x7fff_ffff,
+            Constant::Min => 0x8000_0000,
         }
     }
 }

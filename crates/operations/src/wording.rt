@@ -88,8 +88,8 @@ pub(super) fn constant_word(constant: Constant) -> &'static str
     match constant {
         Constant::Zero => "#0",
         Constant::MinusOne => "#-1",
-        Constant::Greatest => "#$7FFFFFFF",
-        Constant::Least => "#$80000000",
+        Constant::Max => "#$7FFFFFFF",
+        Constant::Min => "#$80000000",
     }
 }
 
