@@ -1,0 +1,4 @@
+pub mod Asking
+pub mod Distances
+pub mod Places
+pub mod Sets

@@ -1,0 +1,9 @@
+pub mod Branches
+pub mod Checks
+pub mod Named
+pub mod Near
+pub mod Offsets
+pub mod Stacks
+pub mod Targets
+pub mod Text
+pub mod Whole

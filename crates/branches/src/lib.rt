@@ -1,0 +1,7 @@
+//! What a bundle asks of its stacks and where it goes on: condition bytes, branches, and the targets of calls and jumps.
+pub mod branch;
+pub mod checks;
+pub mod offset;
+pub mod stacks;
+pub mod target;
+pub mod text;
