@@ -1,18 +1,18 @@
 -- Every image that is accepted is the image of what it carries.
 use mathlib.Core.List.{List, [], _∷_, _++_}
 use mathlib.Core.Path.{_≡_, refl, sym, ap, _∙_}
-use Prim.Native.Nat.{ℕ, zero, suc, _+_, _-_, _*_, _/_, _%_, min}
+use Prim.Native.Nat.{ℕ, zero, suc, _+_, _-_, _*_, _/_, _%_, _≤_, min}
 use native.Mathlib.Omega.{arith}
-use lib.Dec.{eqb}
+use lib.Dec.{eqb, leb}
 use lib.ListN.{length, take, drop, replicate, length-take, length-drop, length-append, take-append-drop}
 use Rattle.std.specs.declared.option.Option.{Option}
 use Rattle.std.specs.declared.option.Option.the-variants.{Some, None}
 use Rattle.std.proofs.shelf.Lists.{append-nil, take-at, drop-at, nil-from-length}
-use Rattle.std.proofs.shelf.Tests.{eqb-true}
+use Rattle.std.proofs.shelf.Tests.{eqb-true, leb-true}
 use Rattle.questions.specs.Questions.{firstNo, orElse}
 use Rattle.questions.proofs.Answered.{passed}
 use Rattle.blocks.specs.Asking.{opening}
-use Rattle.blocks.specs.Kinds.{kindByte}
+use Rattle.blocks.specs.Kinds.{kindByte, mostBlocks}
 use Rattle.blocks.specs.Layout.{sealed, payloadOf}
 use Rattle.blocks.specs.declared.kinds.Kind.{Kind}
 use Rattle.blocks.specs.declared.refusals.BlockRefusal.{BlockRefusal}
@@ -71,6 +71,15 @@ accepted-image kind image none =
     let q = passed (eqb (length image % 512) 0) (firstNo (sizes kind (blocksIn image))) Length (p .0) in
     let whole = eqb-true (length image % 512) 0 (q .0) in
     (omega arith, p .1)
+
+-- and not more blocks than an image of its kind may have
+pub accepted-size : (kind : Kind) (image : List ℕ) → checking kind image ≡ None → blocksIn image ≤ mostBlocks kind
+accepted-size kind image none =
+    let n = blocksIn image in
+    let p = or-none (firstNo ((eqb (length image % 512) 0, Length) ∷ sizes kind n)) (blocksAsked (kindByte kind) 0 n image) none in
+    let q = passed (eqb (length image % 512) 0) (firstNo (sizes kind n)) Length (p .0) in
+    let r = passed (leb 1 n) (firstNo ((leb n (mostBlocks kind), Length) ∷ [])) Length (q .1) in
+    leb-true n (mostBlocks kind) (passed (leb n (mostBlocks kind)) None Length (r .1) .0)
 
 pub only-sealed-all : (kind : Kind) (image : List ℕ) → Bytes image → checking kind image ≡ None → image ≡ sealedAll kind (payloadsOf (blocksIn image) image)
 only-sealed-all kind image bytes none =

@@ -1,3 +1,4 @@
 // Programs: a code image accepted or refused once, its bundles decoded once.
-pub mod refusals;
+pub mod loading;
 pub mod program;
+pub mod refusals;

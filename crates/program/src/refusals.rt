@@ -1,13 +1,14 @@
 // Why a code image makes no program.
 ghost use mathlib.Core.Path.{_≡_};
 ghost use Rattle.program.specs.Refusals.{loadNumber, loadError};
-ghost use Rattle.program.specs.declared.refusals.LoadError.the-variants.{OutOfMemory, Refused};
+ghost use Rattle.program.specs.declared.refusals.LoadError.the-variants.{OutOfMemory};
 use images::refusals::ImageError;
 use images::refusals::ImageRefusal;
 use images::refusals::ImageRefusalDebug;
 use images::refusals::ImageRefusalDisplay;
 use images::refusals::ImageRefusalPartialEq;
 use std::alloc::AllocError;
+use std::alloc::Refused;
 use std::fmt;
 
 // The image's own refusal, or the first bundle that is not lawful.
@@ -32,7 +33,10 @@ pub impl fmt::Display for LoadRefusal as LoadRefusalDisplay {
     fn fmt<W: fmt::Write>(&self, f: &mut fmt::Formatter<W>) -> fmt::Result {
         match self {
             LoadRefusal::Image(refusal) => write!(f, "{refusal}"),
-            LoadRefusal::Unlawful { bundle } => write!(f, "10: Is every bundle lawful? (bundle {bundle})"),
+            LoadRefusal::Unlawful { bundle } => write!(
+                f,
+                "10: Is every bundle lawful? (bundle {bundle})"
+            ),
         }
     }
 }
@@ -55,18 +59,18 @@ pub impl From<ImageError> for LoadError as LoadErrorFromImage {
     }
 }
 
-pub impl From<LoadRefusal> for LoadError as LoadErrorFromRefusal {
-    ghost converts = { λ e r. r ≡ Refused e };
-
-    fn from(refusal: LoadRefusal) -> LoadError {
-        LoadError::Refused(refusal)
-    }
-}
-
 pub impl From<AllocError> for LoadError as LoadErrorFromAlloc {
     ghost converts = { λ _ r. r ≡ OutOfMemory };
 
     fn from(_error: AllocError) -> LoadError {
+        LoadError::OutOfMemory
+    }
+}
+
+pub impl<T: Drop> From<Refused<T>> for LoadError as LoadErrorFromRefused {
+    ghost converts = { λ _ r. r ≡ OutOfMemory };
+
+    fn from(_refused: Refused<T>) -> LoadError {
         LoadError::OutOfMemory
     }
 }
