@@ -8,6 +8,8 @@ pub enum Verb {
     Seal,
     Check,
     Show,
+    List,
+    Read,
     Help,
 }
 
@@ -20,6 +22,8 @@ impl Verb {
             "seal" => Some(Verb::Seal),
             "check" => Some(Verb::Check),
             "show" => Some(Verb::Show),
+            "list" => Some(Verb::List),
+            "read" => Some(Verb::Read),
             "help" => Some(Verb::Help),
             _ => None,
         }
@@ -33,6 +37,8 @@ pub impl fmt::Display for Verb as VerbDisplay {
             Verb::Seal => write!(f, "seal code|table IN OUT"),
             Verb::Check => write!(f, "check IMAGE"),
             Verb::Show => write!(f, "show IMAGE [--payload]"),
+            Verb::List => write!(f, "list IMAGE"),
+            Verb::Read => write!(f, "read IMAGE ADDRESS [COUNT]"),
             Verb::Help => write!(f, "help"),
         }
     }

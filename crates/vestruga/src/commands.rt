@@ -26,6 +26,7 @@ pub(super) enum Misuse {
     Empty,
     UnknownVerb,
     UnknownKind,
+    NotANumber,
     Words(Verb),
 }
 
@@ -50,8 +51,18 @@ pub(super) fn parse<'a>(words: &[&'a str]) -> Result<Command<'a>, Misuse> {
             image,
             payload: true,
         }),
+        (Verb::List, [image]) => Ok(Command::List { image }),
+        (Verb::Read, [image, address]) => reading(image, address, "1"),
+        (Verb::Read, [image, address, count]) => reading(image, address, count),
         (Verb::Help, []) => Ok(Command::Help),
         (verb, _) => Err(Misuse::Words(verb)),
+    }
+}
+
+fn reading<'a>(image: &'a str, address: &str, count: &str) -> Result<Command<'a>, Misuse> {
+    match (address.parse::<usize>(), count.parse::<usize>()) {
+        (Ok(address), Ok(count)) => Ok(Command::Read { image, address, count }),
+        _ => Err(Misuse::NotANumber),
     }
 }
 
@@ -64,6 +75,7 @@ pub(super) impl fmt::Display for Misuse as MisuseDisplay {
                 "there is no such command; `vestruga help` lists them"
             ),
             Misuse::UnknownKind => write!(f, "a block's kind is written `code` or `table`"),
+            Misuse::NotANumber => write!(f, "an address and a count are decimal numbers"),
             Misuse::Words(verb) => write!(f, "the command is written so: vestruga {verb}"),
         }
     }

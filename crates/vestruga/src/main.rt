@@ -4,6 +4,8 @@ mod commands;
 mod counts;
 mod files;
 mod help;
+mod list;
+mod read;
 mod seal;
 mod show;
 mod troubles;
@@ -71,6 +73,8 @@ fn run(rt: &LibcRuntime, words: &[&str]) -> Result<(), Trouble> {
         Command::Seal { kind, from, to } => seal::run(rt, kind, from, to),
         Command::Check { image } => check::run(rt, image),
         Command::Show { image, payload } => show::run(rt, image, payload),
+        Command::List { image } => list::run(rt, image),
+        Command::Read { image, address, count } => read::run(rt, image, address, count),
         Command::Help => help::run(rt),
     }
 }

@@ -5,6 +5,11 @@ use images::refusals::ImageError;
 use images::refusals::ImageErrorDisplay;
 use images::refusals::ImageRefusal;
 use images::refusals::ImageRefusalDisplay;
+use memory::refusals::MemoryRefusal;
+use memory::refusals::MemoryRefusalDisplay;
+use program::refusals::LoadError;
+use program::refusals::LoadRefusal;
+use program::refusals::LoadRefusalDisplay;
 use std::alloc::AllocError;
 use std::fmt;
 use std::io;
@@ -13,6 +18,8 @@ use std::io;
 pub(super) enum Trouble {
     Misused(Misuse),
     Refused(ImageRefusal),
+    NotLoaded(LoadRefusal),
+    Memory { address: usize, refusal: MemoryRefusal },
     OutOfMemory,
     NotRead { path: String, error: io::Error },
     NotWritten { path: String, error: io::Error },
@@ -24,6 +31,8 @@ pub(super) impl fmt::Display for Trouble as TroubleDisplay {
         match self {
             Trouble::Misused(misuse) => write!(f, "{misuse}"),
             Trouble::Refused(refusal) => write!(f, "refused, {refusal}"),
+            Trouble::NotLoaded(refusal) => write!(f, "refused, {refusal}"),
+            Trouble::Memory { address, refusal } => write!(f, "refused, {refusal} (address {address})"),
             Trouble::OutOfMemory => write!(f, "there is not memory enough"),
             Trouble::NotRead { path, error } => write!(f, "{path} cannot be read: {error}"),
             Trouble::NotWritten { path, error } => write!(f, "{path} cannot be written: {error}"),
@@ -49,6 +58,15 @@ pub(super) impl From<ImageError> for Trouble as TroubleFromImage {
         match error {
             ImageError::Refused(refusal) => Trouble::Refused(refusal),
             ImageError::OutOfMemory => Trouble::OutOfMemory,
+        }
+    }
+}
+
+pub(super) impl From<LoadError> for Trouble as TroubleFromLoad {
+    fn from(error: LoadError) -> Trouble {
+        match error {
+            LoadError::Refused(refusal) => Trouble::NotLoaded(refusal),
+            LoadError::OutOfMemory => Trouble::OutOfMemory,
         }
     }
 }
