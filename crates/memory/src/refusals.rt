@@ -1,6 +1,6 @@
 // The questions that a memory asks, by the numbers under which it refuses.
 ghost use mathlib.Core.Path.{_≡_};
-ghost use Rattle.memory.specs.Refusals.{memoryNumber, workNumber};
+ghost use Rattle.memory.specs.Refusals.{memoryNumber, memoryQuestion, workNumber, workQuestion};
 use std::fmt;
 
 // Why a mark is not given, a byte not read or not written.
@@ -18,7 +18,9 @@ impl MemoryRefusal {
         self as u16
     }
 
-    fn question(self) -> &'static str {
+    fn question(self) -> &'static str
+        ensures { λ r. ⌜ now r ≡ memoryQuestion self ⌝ }
+    {
         match self {
             MemoryRefusal::OutOfRange => "Is the address below the size?",
             MemoryRefusal::Spoiled => "Is the byte not spoiled?",
@@ -46,7 +48,9 @@ impl WorkRefusal {
         self as u16
     }
 
-    fn question(self) -> &'static str {
+    fn question(self) -> &'static str
+        ensures { λ r. ⌜ now r ≡ workQuestion self ⌝ }
+    {
         match self {
             WorkRefusal::TooLong => "Are there at most 4194304 bytes?",
         }

@@ -4,6 +4,7 @@ use super::counted::CountedMemory;
 use super::followed::put_twice_joined;
 use super::sparse::Sparse;
 use super::sparse::SparseMemory;
+use memory::asks::ask_write;
 use memory::joins::Join;
 use memory::joins::JoinMemory;
 use memory::lenders::write_bytes;
@@ -81,6 +82,8 @@ fn refused_in_turn() -> Result<(), Fail> {
     ];
     for (at, mark, byte, taken) in rows {
         check_eq(sparse.mark(at), mark)?;
+        check_eq(sparse.read(at), byte)?;
+        check_eq(ask_write(&mut sparse, at), taken)?;
         check_eq(sparse.read(at), byte)?;
         check_eq(sparse.write(at, 77), taken)?;
         check_eq(sparse.mark(at), mark)?;
