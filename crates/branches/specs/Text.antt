@@ -2,8 +2,8 @@
 use Prim.Native.Nat.{ℕ, _+_}
 use lib.Chars.{codes}
 use lib.Dec.{eqb}
-use mathlib.Core.Bool.{Bool, true, false, cond, _||_}
-use mathlib.Core.List.{List, [], _++_}
+use mathlib.Core.Bool.{Bool, false, cond, _||_}
+use mathlib.Core.List.{List, _++_}
 use Rattle.branches.specs.Checks.{bit}
 use Rattle.branches.specs.declared.branch.Branch.{Branch}
 use Rattle.branches.specs.declared.branch.Choice.{Choice}

@@ -1,5 +1,5 @@
 // Branches.
-ghost use mathlib.Core.List.{[], _∷_, _++_};
+ghost use mathlib.Core.List.{[], _∷_};
 ghost use mathlib.Core.Path.{_≡_};
 ghost use lib.ListN.{getD};
 ghost use Rattle.branches.specs.Branches.{decodedBranch, decodedChoice, decodedTaken, encodedBranch, encodedChoice, encodedTaken, neededNumber, neededs};

@@ -2,8 +2,7 @@
 ghost use mathlib.Core.List.{[], _∷_};
 ghost use mathlib.Core.Path.{_≡_};
 ghost use Prim.Native.Nat.{_+_};
-ghost use Rattle.operations.specs.Operations.{bare, combined, decodedOperation, encodedOperation, firsts, flagged, given, lasts, latched};
-ghost use Rattle.operations.specs.Conditions.{conditions};
+ghost use Rattle.operations.specs.Operations.{bare, combined, decodedOperation, encodedOperation, firsts, given, lasts, latched};
 ghost use Rattle.operations.specs.Kinds.{binaryNumber, multiplyNumber};
 ghost use Rattle.std.specs.Slices.{found};
 ghost use Rattle.std.specs.declared.option.Option.the-variants.{Some};

@@ -1,5 +1,5 @@
 use mathlib.Core.List.{List, [], _∷_}
-use mathlib.Core.Path.{sym, ap, _∙_}
+use mathlib.Core.Path.{ap, _∙_}
 use Prim.Native.Nat.{ℕ, _/_, _%_}
 use lib.ListN.{getD}
 use mir.Syntax.{w16}

@@ -1,6 +1,5 @@
 use Prim.Native.Nat.{ℕ, _<_, _+_, _*_}
 use mathlib.Core.Path.{_≡_, sym, ap, subst, _∙_}
-use native.Mathlib.Omega.{arith}
 use Rattle.branches.specs.Stacks.{decodedStacks, encodedStacks}
 use Rattle.branches.proofs.Sets.{stacks-back, stacks-below, stacks-some}
 use Rattle.branches.proofs.stacks.Stacks.encode.Needs as need
