@@ -18,6 +18,14 @@ pub(super) enum Command<'a> {
         image: &'a str,
         payload: bool,
     },
+    List {
+        image: &'a str,
+    },
+    Read {
+        image: &'a str,
+        address: usize,
+        count: usize,
+    },
     Help,
 }
 

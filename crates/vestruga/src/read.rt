@@ -3,7 +3,8 @@ use book::books::Book;
 use book::books::BookMemory;
 use memory::marks::Mark;
 use memory::meaning::Memory;
-use memory::refusals::MemoryRefusalDisplay;
+use memory::sentences::mark_at;
+use memory::sentences::read_at;
 use super::files;
 use super::troubles::Trouble;
 use super::troubles::TroubleFromImage;
@@ -13,16 +14,22 @@ pub(super) fn run(rt: &LibcRuntime, path: &str, address: usize, count: usize) ->
     let image = files::read(rt, path)?;
     let mut book = Book::open(rt.alloc(), &image)?;
     for at in address..address.saturating_add(count) {
-        match (book.mark(at), book.read(at)) {
-            (Ok(mark), Ok(byte)) => {
-                let name = mark_name(mark);
-                println!(rt, "address {at}: {byte:02X}, {name}")?
-            }
-            (_, Err(refusal)) => return Err(Trouble::Memory { address: at, refusal }),
-            (Err(refusal), _) => return Err(Trouble::Memory { address: at, refusal }),
-        }
+        byte(rt, &mut book, at)?;
     }
     Ok(())
+}
+
+// A byte with its mark, of any memory; what is refused ends the command.
+fn byte<M: Memory>(rt: &LibcRuntime, memory: &mut M, address: usize) -> Result<(), Trouble> {
+    match (mark_at(memory, address), read_at(memory, address)) {
+        (Ok(mark), Ok(byte)) => {
+            let name = mark_name(mark);
+            println!(rt, "address {address}: {byte:02X}, {name}")?;
+            Ok(())
+        }
+        (Err(refusal), _) => Err(Trouble::Memory { address, refusal }),
+        (_, Err(refusal)) => Err(Trouble::Memory { address, refusal }),
+    }
 }
 
 fn mark_name(mark: Mark) -> &'static str {
