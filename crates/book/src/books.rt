@@ -28,6 +28,9 @@ use questions::ask;
 use std::alloc::AllocError;
 use std::alloc::Global;
 
+// Where the payload of a block begins.
+const HEADER: usize = 12;
+
 #[derive(Drop)]
 pub struct Book<'a> {
     image: &'a [u8],
@@ -123,7 +126,7 @@ pub impl<'a> Memory for Book<'a> as BookMemory {
         if !sound {
             return Err(MemoryRefusal::Spoiled);
         }
-        Ok(self.image[BLOCK * (at / PAYLOAD) + 12 + at % PAYLOAD])
+        Ok(self.image[BLOCK * (at / PAYLOAD) + HEADER + at % PAYLOAD])
     }
 
     fn write(&mut self, at: usize, _byte: u8) -> Result<(), MemoryRefusal> {

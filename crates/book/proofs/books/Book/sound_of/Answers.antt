@@ -22,8 +22,8 @@ returns-then-place-len c =
     let long : length flags ≡ blocksIn image = ap length (book .decided) ∙ length-map-counting (soundAt image) 0 (blocksIn image) in
     let here : place < length flags = omega (arith, book .sound .ok .0) in
     let flag : c .index .result .now ≡ soundAt image place =
-        getD-read-under flags place (length flags) _ false (c .index .ensures) here refl
-        ∙ ap (λ l. getD l place false) (book .decided) ∙ getD-map-counting (soundAt image) 0 (blocksIn image) place place false (omega (arith, long)) (omega arith) in
+    getD-read-under flags place (length flags) _ false (c .index .ensures) here refl
+    ∙ ap (λ l. getD l place false) (book .decided) ∙ getD-map-counting (soundAt image) 0 (blocksIn image) place place false (omega (arith, long)) (omega arith) in
     ap Some flag ∙ sym (ap (λ b. cond b (Some (soundAt image place)) None) (lt-ltb place (blocksIn image) (omega (arith, long))))
 
 pub returns-else-place-len : need.returns-else-place-len
