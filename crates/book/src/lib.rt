@@ -1,0 +1,2 @@
+// A read-only image of table blocks as a memory.
+pub mod books;
