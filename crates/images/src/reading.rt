@@ -10,6 +10,7 @@ use super::refusals::ImageErrorFromAlloc;
 use super::refusals::ImageErrorFromRefusal;
 use blocks::kinds::Kind;
 use blocks::layout::BLOCK;
+use blocks::layout::PAYLOAD;
 use std::alloc::Global;
 
 // The payloads of an accepted image, one after the other: whatever is accepted is the image of what it carries.
@@ -18,7 +19,7 @@ pub fn payloads(heap: Global, kind: Kind, image: &[u8]) -> Result<Vec<u8>, Image
     ensures exact { λ r. ⌜ made r (λ bytes. now (image .entry) ≡ sealedAll kind (vec-items bytes)) ⌝ }
 {
     let blocks = check(kind, image)?;
-    let mut bytes = Vec::new(heap);
+    let mut bytes = Vec::with_capacity(heap, PAYLOAD * blocks)?;
     for place in 0..blocks {
         let from = BLOCK * place;
         bytes.extend_from_slice(&image[from + 12..from + 508])?;

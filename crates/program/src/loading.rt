@@ -9,7 +9,6 @@ use super::program::Program;
 use super::refusals::LoadError;
 use super::refusals::LoadErrorFromAlloc;
 use super::refusals::LoadErrorFromImage;
-use super::refusals::LoadErrorFromRefused;
 use super::refusals::LoadRefusal;
 use blocks::kinds::Kind;
 use bundles::bundle::Bundle;
@@ -43,7 +42,7 @@ fn decode_all(heap: Global, bytes: &[u8]) -> Result<Vec<Bundle>, LoadError>
                 bundle: place as u32,
             }));
         };
-        bundles.push(bundle)?;
+        bundles.push_reserved(bundle);
     }
     Ok(bundles)
 }

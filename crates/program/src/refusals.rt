@@ -8,7 +8,6 @@ use images::refusals::ImageRefusalDebug;
 use images::refusals::ImageRefusalDisplay;
 use images::refusals::ImageRefusalPartialEq;
 use std::alloc::AllocError;
-use std::alloc::Refused;
 use std::fmt;
 
 // The image's own refusal, or the first bundle that is not lawful.
@@ -63,14 +62,6 @@ pub impl From<AllocError> for LoadError as LoadErrorFromAlloc {
     ghost converts = { λ _ r. r ≡ OutOfMemory };
 
     fn from(_error: AllocError) -> LoadError {
-        LoadError::OutOfMemory
-    }
-}
-
-pub impl<T: Drop> From<Refused<T>> for LoadError as LoadErrorFromRefused {
-    ghost converts = { λ _ r. r ≡ OutOfMemory };
-
-    fn from(_refused: Refused<T>) -> LoadError {
         LoadError::OutOfMemory
     }
 }

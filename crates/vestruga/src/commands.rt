@@ -69,7 +69,11 @@ pub(super) fn parse<'a>(words: &[&'a str]) -> Result<Command<'a>, Misuse> {
 
 fn reading<'a>(image: &'a str, address: &str, count: &str) -> Result<Command<'a>, Misuse> {
     match (address.parse::<usize>(), count.parse::<usize>()) {
-        (Ok(address), Ok(count)) => Ok(Command::Read { image, address, count }),
+        (Ok(address), Ok(count)) => Ok(Command::Read {
+            image,
+            address,
+            count,
+        }),
         _ => Err(Misuse::NotANumber),
     }
 }

@@ -1,10 +1,10 @@
 // `list`: the bundles of a program in words.
-use bundles::text::BundleDisplay;
-use program::program::Program;
 use super::files;
 use super::troubles::Trouble;
 use super::troubles::TroubleFromLoad;
 use super::troubles::TroubleFromOutput;
+use bundles::text::BundleDisplay;
+use program::program::Program;
 
 pub(super) fn run(rt: &LibcRuntime, path: &str) -> Result<(), Trouble> {
     let image = files::read(rt, path)?;

@@ -74,7 +74,11 @@ fn run(rt: &LibcRuntime, words: &[&str]) -> Result<(), Trouble> {
         Command::Check { image } => check::run(rt, image),
         Command::Show { image, payload } => show::run(rt, image, payload),
         Command::List { image } => list::run(rt, image),
-        Command::Read { image, address, count } => read::run(rt, image, address, count),
+        Command::Read {
+            image,
+            address,
+            count,
+        } => read::run(rt, image, address, count),
         Command::Help => help::run(rt),
     }
 }

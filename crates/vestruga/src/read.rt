@@ -1,16 +1,21 @@
 // `read`: bytes of a table by their addresses.
+use super::files;
+use super::troubles::Trouble;
+use super::troubles::TroubleFromImage;
+use super::troubles::TroubleFromOutput;
 use book::books::Book;
 use book::books::BookMemory;
 use memory::marks::Mark;
 use memory::meaning::Memory;
 use memory::sentences::mark_at;
 use memory::sentences::read_at;
-use super::files;
-use super::troubles::Trouble;
-use super::troubles::TroubleFromImage;
-use super::troubles::TroubleFromOutput;
 
-pub(super) fn run(rt: &LibcRuntime, path: &str, address: usize, count: usize) -> Result<(), Trouble> {
+pub(super) fn run(
+    rt: &LibcRuntime,
+    path: &str,
+    address: usize,
+    count: usize,
+) -> Result<(), Trouble> {
     let image = files::read(rt, path)?;
     let mut book = Book::open(rt.alloc(), &image)?;
     for at in address..address.saturating_add(count) {

@@ -19,10 +19,19 @@ pub(super) enum Trouble {
     Misused(Misuse),
     Refused(ImageRefusal),
     NotLoaded(LoadRefusal),
-    Memory { address: usize, refusal: MemoryRefusal },
+    Memory {
+        address: usize,
+        refusal: MemoryRefusal,
+    },
     OutOfMemory,
-    NotRead { path: String, error: io::Error },
-    NotWritten { path: String, error: io::Error },
+    NotRead {
+        path: String,
+        error: io::Error,
+    },
+    NotWritten {
+        path: String,
+        error: io::Error,
+    },
     Output(io::Error),
 }
 
@@ -32,7 +41,10 @@ pub(super) impl fmt::Display for Trouble as TroubleDisplay {
             Trouble::Misused(misuse) => write!(f, "{misuse}"),
             Trouble::Refused(refusal) => write!(f, "refused, {refusal}"),
             Trouble::NotLoaded(refusal) => write!(f, "refused, {refusal}"),
-            Trouble::Memory { address, refusal } => write!(f, "refused, {refusal} (address {address})"),
+            Trouble::Memory { address, refusal } => write!(
+                f,
+                "refused, {refusal} (address {address})"
+            ),
             Trouble::OutOfMemory => write!(f, "there is not memory enough"),
             Trouble::NotRead { path, error } => write!(f, "{path} cannot be read: {error}"),
             Trouble::NotWritten { path, error } => write!(f, "{path} cannot be written: {error}"),

@@ -1,9 +1,9 @@
 use mathlib.Core.List.{_++_}
 use mathlib.Core.Path.{_≡_, sym, ap, _∙_}
-use Prim.Native.Nat.{_+_, _-_, _*_, _/_}
+use Prim.Native.Nat.{_+_, _-_, _*_, _/_, _≤_}
 use native.Mathlib.Omega.{arith}
 use lib.ListN.{length, drop}
-use Rattle.std.specs.Of.Vec.{vec-items, vec-len}
+use Rattle.std.specs.Of.Vec.{vec-items, vec-len, vec-cap}
 use Rattle.std.specs.declared.option.Option.the-variants.{None, Some}
 use Rattle.std.proofs.shelf.Lists.{append-nil}
 use Rattle.program.specs.Loading.{unlawful, bundlesOf}
@@ -26,10 +26,12 @@ loop-place-again c =
     let here = c .loop-place-test .taken in
     let bundle = c .in-Some .bundle in
     let some = means-here bytes place n here (Some bundle) (c .in-Some .ensures tt .value) in
-    let pushed = c .in-Continue-push .ensures tt in (
+    let pushed = c .push-reserved .ensures in
+    let room : n ≤ vec-cap (c .push-reserved .last .self) = omega (arith, pushed .capacity, c .loop-place .inv .3) in (
       passes bytes place n here bundle (c .loop-place .inv .0) some,
       ap (λ l. l ++ bundlesOf (n - (place + 1)) (drop (16 * (place + 1)) bytes)) (pushed .items) ∙ gathers bytes place n here bundle (vec-items (c .loop-place .bundles)) (c .loop-place .inv .1) some,
       pushed .len ∙ ap (λ m. m + 1) (c .loop-place .inv .2),
+      room,
     )
 
 pub returns : need.returns

@@ -1,0 +1,3 @@
+// Examples of loading, with images made by hand.
+#[cfg(test)]
+mod loads;
