@@ -133,9 +133,10 @@ pub impl<'a> Memory for Book<'a> as BookMemory {
         let Some(sound) = self.sound_of(at) else {
             return Err(MemoryRefusal::OutOfRange);
         };
-        if !sound {
-            return Err(MemoryRefusal::Spoiled);
+        if sound {
+            Err(MemoryRefusal::NotOpen)
+        } else {
+            Err(MemoryRefusal::Spoiled)
         }
-        Err(MemoryRefusal::NotOpen)
     }
 }

@@ -13,16 +13,16 @@ returns-in-rest c =
     let refused = sym (wrote-outside (bookCells image) at (outside image at (sym (c .in-rest .ensures tt)))) in
     record { stays = refl; answers = refused; after = unwritten image at _ refusals.OutOfRange refused }
 
-pub returns-then-not-sound : need.returns-then-not-sound
-returns-then-not-sound c =
+pub returns-then-sound : need.returns-then-sound
+returns-then-sound c =
     let image = c .args .self .now .image .now in
     let at = c .args .at in
-    let refused = spoiled-wrote image at (sym (c .in-Some .ensures tt) ∙ ap Some (c .if-not-sound .taken)) in
-    record { stays = refl; answers = refused; after = unwritten image at _ refusals.Spoiled refused }
-
-pub returns : need.returns
-returns c =
-    let image = c .args .self .now .image .now in
-    let at = c .args .at in
-    let refused = kept-wrote image at (sym (c .in-Some .ensures tt) ∙ ap Some (c .if-not-sound .left)) in
+    let refused = kept-wrote image at (sym (c .in-Some .ensures tt) ∙ ap Some (c .if-sound .taken)) in
     record { stays = refl; answers = refused; after = unwritten image at _ refusals.NotOpen refused }
+
+pub returns-else-sound : need.returns-else-sound
+returns-else-sound c =
+    let image = c .args .self .now .image .now in
+    let at = c .args .at in
+    let refused = spoiled-wrote image at (sym (c .in-Some .ensures tt) ∙ ap Some (c .if-sound .left)) in
+    record { stays = refl; answers = refused; after = unwritten image at _ refusals.Spoiled refused }
