@@ -6,7 +6,7 @@ use mathlib.Core.Path.{_≡_, refl, sym, ap, _∙_}
 use native.Mathlib.Omega.{arith}
 use Rattle.branches.specs.Targets.{decodedTarget, encodedTarget, targetIf, targetOf}
 use Rattle.branches.specs.Whole.{whole}
-use Rattle.branches.specs.declared.target.Target.{Target}
+use Rattle.branches.specs.declared.targets.Target.{Target}
 use Rattle.std.specs.Slices.{found}
 use Rattle.std.specs.declared.option.Option.the-variants.{Some}
 

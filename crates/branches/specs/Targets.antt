@@ -4,7 +4,7 @@ use mathlib.Core.Bool.{Bool, true, false}
 use mathlib.Core.List.{List, [], _∷_}
 use mathlib.Core.Path.{_≡_, refl}
 use Rattle.branches.specs.Whole.{whole}
-use Rattle.branches.specs.declared.target.Target.{Target}
+use Rattle.branches.specs.declared.targets.Target.{Target}
 use Rattle.std.specs.declared.option.Option.{Option}
 use Rattle.std.specs.declared.option.Option.the-variants.{Some, None}
 

@@ -14,7 +14,7 @@ use Rattle.branches.specs.declared.branch.Taken.the-variants.{Always, If}
 use Rattle.branches.specs.declared.checks.Check.{Check}
 use Rattle.branches.specs.declared.offset.Offset.{Offset}
 use Rattle.branches.specs.declared.stacks.Stacks.{Stacks}
-use Rattle.branches.specs.declared.target.Target.{Target}
+use Rattle.branches.specs.declared.targets.Target.{Target}
 use Rattle.operations.specs.Text.{stackText}
 use Rattle.operations.specs.Words.{conditionWord}
 use Rattle.operations.specs.declared.places.StackNumber.{StackNumber}

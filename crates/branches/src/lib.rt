@@ -3,5 +3,5 @@ pub mod branch;
 pub mod checks;
 pub mod offset;
 pub mod stacks;
-pub mod target;
+pub mod targets;
 pub mod text;

@@ -10,7 +10,7 @@ use super::checks::Check;
 use super::checks::write_bit;
 use super::offset::Offset;
 use super::stacks::Stacks;
-use super::target::Target;
+use super::targets::Target;
 use operations::places::StackNumber;
 use operations::text::StackNumberDisplay;
 use operations::wording::condition_word;

@@ -4,7 +4,7 @@ use lib.ListN.{getD}
 use mathlib.Core.Bool.{cond}
 use mathlib.Core.List.{List, [], _∷_}
 use Rattle.branches.specs.Targets.{decodedTarget, encodedTarget}
-use Rattle.branches.specs.declared.target.Target.{Target}
+use Rattle.branches.specs.declared.targets.Target.{Target}
 use Rattle.bundles.specs.Tails.{decodedTail, encodedTail, unused}
 use Rattle.bundles.specs.declared.ending.Ending.{Ending}
 use Rattle.bundles.specs.declared.ending.Ending.the-variants.{Slot, Call, Jump}

@@ -6,7 +6,7 @@ use lib.ListN.{getD}
 use borrow.Author.Needs.{needs}
 use Rattle.branches.specs.Targets.{decodedTarget}
 use Rattle.branches.proofs.Places.{target-back}
-use Rattle.branches.proofs.target.Target.encode.Needs as need
+use Rattle.branches.proofs.targets.Target.encode.Needs as need
 
 pub returns : need.returns
 returns c =

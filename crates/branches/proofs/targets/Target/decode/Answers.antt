@@ -1,11 +1,11 @@
 use mathlib.Core.List.{[], _∷_}
 use mathlib.Core.Path.{_≡_, sym, ap, subst, _∙_}
 use Rattle.branches.specs.Targets.{encodedTarget, targetOf}
-use Rattle.branches.specs.declared.target.Target.{Target}
+use Rattle.branches.specs.declared.targets.Target.{Target}
 use Rattle.branches.proofs.Places.{target-only}
 use Rattle.std.specs.Slices.{found}
 use Rattle.std.specs.declared.option.Option.{Option}
-use Rattle.branches.proofs.target.Target.decode.Needs as need
+use Rattle.branches.proofs.targets.Target.decode.Needs as need
 
 pub returns : need.returns
 returns c =
