@@ -1,6 +1,6 @@
 // The questions that sealing and opening ask, by the numbers under which they refuse.
 ghost use mathlib.Core.Path.{_≡_};
-ghost use Rattle.blocks.specs.Refusals.{sealNumber, blockNumber};
+ghost use Rattle.blocks.specs.Refusals.{sealNumber, sealQuestion, blockNumber, blockQuestion};
 use std::fmt;
 
 // Why a payload is not sealed.
@@ -18,7 +18,9 @@ impl SealRefusal {
         self as u16
     }
 
-    fn question(self) -> &'static str {
+    fn question(self) -> &'static str
+        ensures { λ r. ⌜ now r ≡ sealQuestion self ⌝ }
+    {
         match self {
             SealRefusal::UnknownKind => "Is the kind 1 (code) or 2 (table)?",
             SealRefusal::PayloadLength => "Does the payload have 496 bytes?",
@@ -51,7 +53,9 @@ impl BlockRefusal {
         self as u16
     }
 
-    fn question(self) -> &'static str {
+    fn question(self) -> &'static str
+        ensures { λ r. ⌜ now r ≡ blockQuestion self ⌝ }
+    {
         match self {
             BlockRefusal::NotWhole => "Is it a whole block of 512 bytes?",
             BlockRefusal::WrongKind => "Is the kind the one asked for?",

@@ -1,7 +1,7 @@
 // Why an image is not accepted.
 ghost use mathlib.Core.Path.{_≡_};
 ghost use Rattle.images.specs.declared.refusals.ImageError.the-variants.{Refused as Is, OutOfMemory};
-ghost use Rattle.images.specs.Refusals.{imageNumber};
+ghost use Rattle.images.specs.Refusals.{imageNumber, lengthQuestion};
 use blocks::refusals::BlockRefusal;
 use blocks::refusals::BlockRefusalDebug;
 use blocks::refusals::BlockRefusalDisplay;
@@ -28,13 +28,16 @@ impl ImageRefusal {
     }
 }
 
+fn length_question() -> &'static str
+    ensures { λ r. ⌜ now r ≡ lengthQuestion ⌝ }
+{
+    "Is the image 1 to 2048 whole blocks (1 to 8192 of a table)?"
+}
+
 pub impl fmt::Display for ImageRefusal as ImageRefusalDisplay {
     fn fmt<W: fmt::Write>(&self, f: &mut fmt::Formatter<W>) -> fmt::Result {
         match self {
-            ImageRefusal::Length => write!(
-                f,
-                "4: Is the image 1 to 2048 whole blocks (1 to 8192 of a table)?"
-            ),
+            ImageRefusal::Length => write!(f, "{}: {}", self.number(), length_question()),
             ImageRefusal::Block { place, refusal } => write!(f, "{refusal} (block {place})"),
         }
     }
