@@ -1,4 +1,4 @@
-// Bundles in words, as the manual writes them.
+// Bundles in words.
 use bundles::bundle::Bundle;
 use bundles::text::BundleDisplay;
 use std::test::*;
