@@ -1,4 +1,5 @@
 //! Bits of words: none of these names a flag.
+#![tactic(auto)]
 ghost use Rattle.std.specs.Prelude.{◌≡◌};
 ghost use Rattle.bits.specs.Bits.{FirstOne, Population, and, ff1, or, popc, xor};
 

@@ -1,4 +1,5 @@
 // Blocks of 512 bytes, in which programs and tables travel: sealed, opened, and put together to images.
+#![tactic(auto)]
 pub mod check;
 pub mod headers;
 pub mod kinds;

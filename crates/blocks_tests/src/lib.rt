@@ -1,4 +1,5 @@
 // Examples of blocks and images, worked by hand.
+#![tactic(auto)]
 #[cfg(test)]
 mod blocks;
 #[cfg(test)]

@@ -1,4 +1,5 @@
 // Books at their edges, with damaged blocks, and behind a join.
+#![tactic(auto)]
 #[cfg(test)]
 mod damage;
 #[cfg(test)]

@@ -1,4 +1,5 @@
 //! Bundles: sixteen bytes, typed.
+#![tactic(auto)]
 pub mod bundle;
 pub mod ending;
 pub mod tails;

@@ -1,3 +1,4 @@
 //! The multiplier's latch: what goes into it, and what is fetched from it.
+#![tactic(auto)]
 pub mod fetches;
 pub mod products;

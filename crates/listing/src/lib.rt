@@ -1,4 +1,5 @@
 //! Bundles as people write them.
+#![tactic(auto)]
 mod branching;
 pub mod bundle;
 mod moving;

@@ -1,4 +1,5 @@
 // Memories by their meaning: the trait, the caller's bytes, a memory behind another, and memories that are lent.
+#![tactic(auto)]
 pub mod asks;
 pub mod joins;
 pub mod lenders;

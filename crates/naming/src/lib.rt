@@ -1,4 +1,5 @@
 //! Operations by what people write for them.
+#![tactic(auto)]
 ghost use Rattle.naming.specs.Naming.{Named, NamedAt, NamedBy, Tells};
 ghost use Rattle.std.specs.Prelude.{IfOk};
 

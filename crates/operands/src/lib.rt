@@ -1,4 +1,5 @@
 //! Second operands: places in stacks, and four constants.
+#![tactic(auto)]
 ghost use Rattle.std.specs.Prelude.{◌≡◌, ◌<◌, IfSome, Some};
 ghost use Rattle.operands.specs.Operands.{constant_number, constants, constant_value, decoded_operand, decoded_source, encoded_operand, encoded_source, source_operand};
 ghost use Rattle.std.specs.List.{slice_get};

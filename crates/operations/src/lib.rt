@@ -1,3 +1,4 @@
 //! What a slot does: its operation, from an operation byte and an argument byte, and back.
+#![tactic(auto)]
 pub mod kinds;
 pub mod operation;

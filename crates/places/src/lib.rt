@@ -1,4 +1,5 @@
 //! Places in stacks, and the stacks by number.
+#![tactic(auto)]
 ghost use Rattle.std.specs.Prelude.{◌≡◌, ◌<◌, IfSome, Some};
 ghost use Rattle.places.specs.Places.{near_number, nears, place_number, places, stack_number, stacks};
 ghost use Rattle.std.specs.List.{slice_get};

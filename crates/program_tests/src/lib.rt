@@ -1,3 +1,4 @@
 // Examples of loading, with images made by hand.
+#![tactic(auto)]
 #[cfg(test)]
 mod loads;

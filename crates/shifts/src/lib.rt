@@ -1,4 +1,5 @@
 //! Shifts and rotations by one place, with their flags.
+#![tactic(auto)]
 ghost use Rattle.std.specs.Prelude.{◌≡◌, ◌+◌, ◌*◌, false, ◌+ℤ◌};
 ghost use Rattle.shifts.specs.Shifts.{Back, Halves, RightExact, asl, asr, highest, left, lowest, lsl, lsr, right, rol, rolc, ror, rorc};
 ghost use Rattle.words.specs.Outcomes.{CarryExact, ExactlyUnlessOverflow};

@@ -1,4 +1,5 @@
 //! Every operation of a slot on examples worked by hand, and the edges of a stack.
+#![tactic(auto)]
 #[cfg(test)]
 mod combined;
 #[cfg(test)]

@@ -1,4 +1,5 @@
 // The command-line program: one command from its arguments, or a script of them from standard input.
+#![tactic(auto)]
 mod check;
 mod commands;
 mod counts;

@@ -1,4 +1,5 @@
 //! Examples of every word operation, each worked by hand.
+#![tactic(auto)]
 #[cfg(test)]
 mod bits;
 #[cfg(test)]
