@@ -132,6 +132,7 @@ firstNo first_no
 fits-at fits_at
 fits-inside fits_inside
 flag-back flag_back
+flag-only flag_only
 flagOf flag_of
 flagWord flag_word
 found-if found_if
@@ -335,6 +336,7 @@ tail-blocks tail_blocks
 tailText tail_text
 takenText taken_text
 target-back target_back
+target-only target_only
 targetBytes target_bytes
 targetIf target_if
 targetIf-is target_if_is

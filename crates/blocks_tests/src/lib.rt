@@ -1,6 +1,6 @@
 // Examples of blocks and images, worked by hand.
 #![tactic(auto)]
 #[cfg(test)]
-mod blocks;
+mod block_cases;
 #[cfg(test)]
-mod images;
+mod image_cases;

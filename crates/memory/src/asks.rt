@@ -20,9 +20,9 @@ fn ask_open(mark: Mark) -> Result<(), MemoryRefusal>
 
 // What a write would answer; nothing is written.
 pub fn ask_write<M: Memory>(memory: &mut M, at: usize) -> Result<(), MemoryRefusal>
-    ensures stays { stays memory.old memory.new }
-    ensures answers { result ≡ wrote (cells memory.old) at }
-    ensures same { cells memory.new ≡ cells memory.old }
+    ensures stays { M.stays memory.old memory.new }
+    ensures answers { result ≡ wrote (M.cells memory.old) at }
+    ensures same { M.cells memory.new ≡ M.cells memory.old }
 {
     match memory.mark(at) {
         Ok(mark) => ask_open(mark),

@@ -1,5 +1,6 @@
 // Memories by their meaning: the trait, the caller's bytes, a memory behind another, and memories that are lent.
 #![tactic(auto)]
+
 pub mod asks;
 pub mod joins;
 pub mod lenders;

@@ -10,7 +10,7 @@ ghost use Rattle.slots.specs.Latches.{latch_of};
 ghost use Rattle.stacks.specs.Held.{held, held_at};
 
 use super::latches::Latches;
-use super::places::{pick, pin};
+use super::moving::{pick, pin};
 use super::registers::{access, fetch_latch};
 use super::tops::{append_byte, flag, keep, push, scan_top, shift_top};
 use super::twos::{combine_two, latch_two};

@@ -1,5 +1,6 @@
 //! Stacks of at most 64 words with their flags, and changes to a stack's words as small as what changes.
 #![tactic(auto)]
+
 pub mod changes;
 pub mod reading;
 pub mod settling;

@@ -1,5 +1,6 @@
 //! Sums and differences of two words: n1 is the word below the top, n2 the top.
 #![tactic(auto)]
+
 ghost use Rattle.std.specs.Prelude.{◌≡◌, ◌+◌, pos, ◌+ℤ◌, ◌-ℤ◌};
 ghost use Rattle.words.specs.Words.{bit, outside, signed};
 ghost use Rattle.sums.specs.Comparisons.{Compares};

@@ -1,7 +1,7 @@
 // The command-line program: one command from its arguments, or a script of them from standard input.
 #![tactic(auto)]
 mod check;
-mod commands;
+mod command;
 mod counts;
 mod files;
 mod help;
@@ -13,7 +13,7 @@ mod slot;
 mod trial;
 mod troubles;
 
-use self::commands::{Command, parse};
+use self::command::{Command, parse};
 use self::troubles::Trouble;
 use anyhow::anyhow;
 use std::alloc::Global;

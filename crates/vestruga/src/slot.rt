@@ -1,5 +1,5 @@
 // `slot`: an operation tried on a stack, without a program.
-use super::commands::Misuse;
+use super::command::Misuse;
 use super::trial;
 use super::trial::Trial;
 use super::troubles::Trouble;

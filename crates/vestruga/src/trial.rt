@@ -1,5 +1,5 @@
 // What an operation is tried on: the stacks, the latch and the next address, read from the words of a command.
-use super::commands::Misuse;
+use super::command::Misuse;
 use slots::latches::Latches;
 use stacks::changes::{Change, Few};
 use stacks::stack::Stack;

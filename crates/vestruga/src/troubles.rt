@@ -1,5 +1,5 @@
 // Why a command was not carried out: one line that says so.
-use super::commands::Misuse;
+use super::command::Misuse;
 use images::refusals::{ImageError, ImageRefusal};
 use memory::refusals::MemoryRefusal;
 use program::refusals::{LoadError, LoadRefusal};

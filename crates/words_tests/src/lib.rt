@@ -1,12 +1,12 @@
 //! Examples of every word operation, each worked by hand.
 #![tactic(auto)]
 #[cfg(test)]
-mod bits;
+mod bit_cases;
 #[cfg(test)]
-mod conditions;
+mod condition_cases;
 #[cfg(test)]
-mod latch;
+mod latch_cases;
 #[cfg(test)]
-mod shifts;
+mod shift_cases;
 #[cfg(test)]
-mod sums;
+mod sum_cases;

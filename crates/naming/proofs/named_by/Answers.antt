@@ -5,4 +5,4 @@ use Rattle.naming.proofs.named_by.Goals as goal
 pub loop-argument-preserved : goal.loop-argument-preserved
 loop-argument-preserved c =
     below_more _ _ c.loop-argument.invariant
-    (subst (NamedAt c.args.number c.loop-argument.argument c.args.text.now) c.in-default.is c.in-ok-operation.ensures)
+    (subst (NamedAt c.args.number c.loop-argument.argument c.args.text.now) c.in_default.is c.in_ok-operation.ensures)

@@ -5,4 +5,4 @@ use Rattle.naming.proofs.operation_named.Goals as goal
 pub loop-number-preserved : goal.loop-number-preserved
 loop-number-preserved c =
     below_more _ _ c.loop-number.invariant
-    (subst (NamedBy c.loop-number.number c.args.text.now) c.in-default.is c.in-ok-operation.ensures)
+    (subst (NamedBy c.loop-number.number c.args.text.now) c.in_default.is c.in_ok-operation.ensures)

@@ -6,5 +6,5 @@ pub returns : goal.returns
 returns c =
     let part = c.args.part.now in
     let from : length part - 0 ≡ length part = omega arith in
-    ap (λ p. p ++ drop (length part - 0) (replicate 496 0)) c.copy-from-slice.ensures.after
+    ap (λ p. p ++ drop (length part - 0) (replicate 496 0)) c.copy_from_slice.ensures.after
     ∙ ap (λ n. part ++ drop n (replicate 496 0)) from ∙ ap (λ z. part ++ z) (drop-replicate (length part) 496 0)

@@ -10,8 +10,8 @@ wide z = to_z w64 (of_z w64 (to_z w32 (of_z w32 z)))
 
 pub returns : goal.returns
 returns c =
-    let x = c.cast-signed.result in
-    let y = c.cast-signed-2.result in
+    let x = c.cast_signed.result in
+    let y = c.cast_signed-2.result in
     let fx : SFits w32 x = search rules in
     let fy : SFits w32 y = search rules in
     let p : SFits w64 (wide x *ℤ wide y) = signed_product w64 w32 w32 x y fx fy tt in

@@ -7,7 +7,7 @@ returns-in-Ok g c =
     let cells = g.M.Memory.cells c.args.memory.now in
     record {
       stays = c.mark.ensures.stays;
-      answers = c.ask-open.ensures ∙ sym (marked-given cells c.args.at c.in-Ok.mark (sym c.in-Ok.ensures.answers));
+      answers = c.ask_open.ensures ∙ sym (marked-given cells c.args.at c.in-Ok.mark (sym c.in-Ok.ensures.answers));
       same = c.mark.ensures.same;
     }
 

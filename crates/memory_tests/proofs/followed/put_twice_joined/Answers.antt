@@ -6,8 +6,8 @@ use Rattle.memory_tests.proofs.followed.put_twice_joined.Goals as goal
 
 pub returns : goal.returns
 returns g c =
-    let last = c.put-twice.new.memory in
-    let stays = c.put-twice.ensures.stays in
+    let last = c.put_twice.new.memory in
+    let stays = c.put_twice.ensures.stays in
     let f = g.F.Memory.cells c.args.front.now in
     let b = g.B.Memory.cells c.args.back.now in
     let f' = g.F.Memory.cells last.front.now in
@@ -15,6 +15,6 @@ returns g c =
     let whole = written (written (joined f b) c.args.first c.args.byte) c.args.second c.args.byte in
     let marks = g.F.Memory.steady.marks c.args.front.now last.front.now stays.0.1 in
     record {
-      front_after_lem = ap g.F.Memory.cells (c.front·1.given.1 stays.0.0) ∙ front_after_lem f b f' b' whole marks stays.2 c.put-twice.ensures.after;
-      back_after_lem = ap g.B.Memory.cells (c.back·1.given.1 stays.1.0) ∙ back_after_lem f b f' b' whole marks stays.2 c.put-twice.ensures.after;
+      front_after = ap g.F.Memory.cells (c.front-1.given.1 stays.0.0) ∙ front_after_lem f b f' b' whole marks stays.2 c.put_twice.ensures.after;
+      back_after = ap g.B.Memory.cells (c.back-1.given.1 stays.1.0) ∙ back_after_lem f b f' b' whole marks stays.2 c.put_twice.ensures.after;
     }

@@ -4,13 +4,13 @@ use Rattle.program.specs.Loading.{unlawful, bundles_of}
 use Rattle.program.proofs.Decoding.{means_here, refuses, passes, gathers}
 use Rattle.program.proofs.loading.decode_all.Goals as goal
 
-pub returns-in-default : goal.returns-in-default
-returns-in-default c =
+pub returns-in_default : goal.returns-in_default
+returns-in_default c =
     let bytes = c.args.bytes.now in
     let place = c.loop-place.place in
     let n = length bytes / 16 in
     let here = c.loop-place-test.true in
-    record { answers = refuses bytes place n here c.loop-place.invariant.0 (means_here bytes place n here None c.in-default.ensures.value); bound = tt }
+    record { answers = refuses bytes place n here c.loop-place.invariant.0 (means_here bytes place n here None c.in_default.ensures.value); bound = tt }
 
 pub loop-place-preserved : goal.loop-place-preserved
 loop-place-preserved c =
@@ -18,7 +18,7 @@ loop-place-preserved c =
     let place = c.loop-place.place in
     let n = length bytes / 16 in
     let here = c.loop-place-test.true in
-    let bundle = c.decode-from.new.self in
+    let bundle = c.decode_from.new.self in
     let some = means_here bytes place n here (Some bundle) c.in-Some.ensures.value in
     let pushed = c.push-reserved.ensures in
     let room : n ≤ vec_capacity c.push-reserved.new.self = omega (arith, pushed.capacity, c.loop-place.invariant.3) in (

@@ -4,11 +4,11 @@ use Rattle.book.specs.Books.{book_cells}
 use Rattle.book.proofs.Shelved.{outside, kept-marked, spoiled-marked}
 use Rattle.book.proofs.books.BookMemory.mark.Goals as goal
 
-pub returns-in-default : goal.returns-in-default
-returns-in-default c =
+pub returns-in_default : goal.returns-in_default
+returns-in_default c =
     let image = c.args.self.now.image.now in
     let at = c.args.at in
-    record { stays = refl; answers = sym (marked-outside (book_cells image) at (outside image at (sym c.in-default.ensures))); same = refl }
+    record { stays = refl; answers = sym (marked-outside (book_cells image) at (outside image at (sym c.in_default.ensures))); same = refl }
 
 pub returns-then-sound : goal.returns-then-sound
 returns-then-sound c =

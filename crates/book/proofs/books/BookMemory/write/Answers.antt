@@ -5,11 +5,11 @@ use Rattle.book.specs.Books.{book_cells}
 use Rattle.book.proofs.Shelved.{outside, kept-wrote, spoiled-wrote, unwritten}
 use Rattle.book.proofs.books.BookMemory.write.Goals as goal
 
-pub returns-in-default : goal.returns-in-default
-returns-in-default c =
+pub returns-in_default : goal.returns-in_default
+returns-in_default c =
     let image = c.args.self.now.image.now in
     let at = c.args.at in
-    let refused = sym (wrote-outside (book_cells image) at (outside image at (sym c.in-default.ensures))) in
+    let refused = sym (wrote-outside (book_cells image) at (outside image at (sym c.in_default.ensures))) in
     record { stays = refl; answers = refused; after = unwritten image at _ refusals.OutOfRange refused }
 
 pub returns-then-sound : goal.returns-then-sound

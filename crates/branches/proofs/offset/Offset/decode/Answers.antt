@@ -9,8 +9,8 @@ pub returns : goal.returns
 returns c =
     let high = c.args.high in
     let low = c.args.low in
-    let fits : SFits w16 c.cast-signed.result = record { sfits = c.cast-signed.type-inv } in
-    let value = c.new.ensures ∙ ap offset_of (to_z-of_z w16 c.cast-signed.result fits ∙ c.cast-signed.ensures ∙ ap (to_z w16) c.from-be-bytes.ensures) in
+    let fits : SFits w16 c.cast_signed.result = record { sfits = c.cast_signed.type_inv } in
+    let value = c.new.ensures ∙ ap offset_of (to_z-of_z w16 c.cast_signed.result fits ∙ c.cast_signed.ensures ∙ ap (to_z w16) c.from_be_bytes.ensures) in
     record {
       value = value;
       only = subst (λ (r : Option Offset). IfSome r (λ offset. encoded_offset offset ≡ high ∷ low ∷ [])) (sym value) (offset-only high low c.ranges.high.fits c.ranges.low.fits);

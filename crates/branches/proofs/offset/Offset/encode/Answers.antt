@@ -6,10 +6,10 @@ use Rattle.branches.proofs.offset.Offset.encode.Goals as goal
 
 pub returns : goal.returns
 returns c =
-    let bytes = c.to-be-bytes.ensures in
+    let bytes = c.to_be_bytes.ensures in
     let fits : SFits w16 c.args.self.bundles = search rules in
-    let bits = c.cast-unsigned.ensures ∙ ap (of_z w16) (to_z-of_z w16 c.args.self.bundles fits) in
+    let bits = c.cast_unsigned.ensures ∙ ap (of_z w16) (to_z-of_z w16 c.args.self.bundles fits) in
     record {
       value = bytes ∙ ap (λ (n : ℕ). (n / 256 % 256) ∷ (n % 256) ∷ []) bits;
-      back = ap (λ (r : List ℕ). decoded_offset (get_or r 0 0) (get_or r 1 0)) bytes ∙ offset_back c.args.self c.cast-unsigned.result bits c.cast-unsigned.type-inv fits;
+      back = ap (λ (r : List ℕ). decoded_offset (get_or r 0 0) (get_or r 1 0)) bytes ∙ offset_back c.args.self c.cast_unsigned.result bits c.cast_unsigned.type_inv fits;
     }

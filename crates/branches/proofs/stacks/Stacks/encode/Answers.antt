@@ -5,7 +5,7 @@ use Rattle.branches.proofs.stacks.Stacks.encode.Goals as goal
 
 pub returns : goal.returns
 returns c =
-    let value : c.write-bit.result + 2 * c.write-bit-2.result + 4 * c.write-bit-3.result + 8 * c.write-bit-4.result ≡ encoded_stacks c.args.self = cc in
+    let value : c.write_bit.result + 2 * c.write_bit-2.result + 4 * c.write_bit-3.result + 8 * c.write_bit-4.result ≡ encoded_stacks c.args.self = cc in
     record {
       value = value;
       back = ap decoded_stacks value ∙ stacks_back c.args.self;

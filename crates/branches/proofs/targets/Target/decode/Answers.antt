@@ -8,7 +8,7 @@ pub returns : goal.returns
 returns c =
     let a = c.args in
     let fit = c.ranges in
-    let value = c.new.ensures ∙ ap target_of c.from-be-bytes.ensures in
+    let value = c.new.ensures ∙ ap target_of c.from_be_bytes.ensures in
     record {
       value = value;
       only = subst (λ (r : Option Target). IfSome r (λ target. encoded_target target ≡ a.first ∷ a.second ∷ a.third ∷ a.fourth ∷ [])) (sym value)

@@ -5,7 +5,7 @@ use Rattle.branches.proofs.targets.Target.encode.Goals as goal
 
 pub returns : goal.returns
 returns c =
-    let bytes = c.to-be-bytes.ensures in
+    let bytes = c.to_be_bytes.ensures in
     let small : c.args.self.address < 2 ^ 32 = search rules in
     record {
       value = bytes;

@@ -8,8 +8,8 @@ use Rattle.memory.proofs.works.WorkMemory.read.Goals as goal
 pub returns-then-at-size : goal.returns-then-at-size
 returns-then-at-size c = record { stays = opens_steady.idle c.args.self.now.bytes; answers = sym (read_outside (open_cells c.args.self.now.bytes.now) c.args.at (omega (arith, c.size.ensures))); same = refl }
 
-pub bounds_self_at : goal.bounds_self_at
-bounds_self_at c = omega (arith, c.size.ensures, length-opens c.args.self.now.bytes.now)
+pub bounds-self-at : goal.bounds-self-at
+bounds-self-at c = omega (arith, c.size.ensures, length-opens c.args.self.now.bytes.now)
 
 pub returns : goal.returns
 returns c = record { stays = opens_steady.idle c.args.self.now.bytes; answers = open_read c.args.self.now.bytes.now c.args.at (omega (arith, c.size.ensures)); same = refl }

@@ -14,8 +14,8 @@ returns-then-at-size c =
       after = sym (written-outside cells c.args.at (omega (arith, c.size.ensures)) c.args.byte);
     }
 
-pub bounds_self_at : goal.bounds_self_at
-bounds_self_at c = omega (arith, c.size.ensures, length-opens c.args.self.now.bytes.now)
+pub bounds-self-at : goal.bounds-self-at
+bounds-self-at c = omega (arith, c.size.ensures, length-opens c.args.self.now.bytes.now)
 
 pub returns : goal.returns
 returns c =

@@ -5,7 +5,7 @@ use Rattle.program.proofs.program.Program.load.Goals as goal
 
 pub decode-all-requires : goal.decode-all-requires
 decode-all-requires c =
-    let read = c.in-ok-bytes.ensures.answers in
+    let read = c.in_ok-bytes.ensures.answers in
     let few = code_length c.args.image.now read.0 in
     let long : length c.deref.result.now ≡ length (code_of c.args.image.now) = ap length (c.deref.ensures.value ∙ read.1) in
     omega arith

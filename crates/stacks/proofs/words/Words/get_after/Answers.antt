@@ -4,14 +4,14 @@ use Rattle.stacks.proofs.Pins.{pin_else, pin_here, pin_past}
 use Rattle.stacks.proofs.words.Words.get_after.Goals as goal
 use Rattle.stacks.proofs.words.Words.get_after.Goals.{else-pinned-gt0-via-then-pinned-gt0+else-place-pinned, else-pinned-gt0-via-else-pinned-gt0}
 
-pub returns-in-err-word : goal.returns-in-err-word
-returns-in-err-word c =
-    let past = pin_past (words_in c.args.self.now) c.in-Pin.pinned c.args.place (cc c.in-err-word.was) in
-    rw c.in-Pin.is (c.from-residual.ensures ∙ sym past)
+pub returns-in_err-word-in-Pin : goal.returns-in_err-word-in-Pin
+returns-in_err-word-in-Pin c =
+    let past = pin_past (words_in c.args.self.now) c.in-Pin.pinned c.args.place (cc c.in_err-word-in-Pin.was) in
+    rw c.in-Pin.is (c.from_residual.ensures ∙ sym past)
 
 pub returns-then-place-pinned : goal.returns-then-place-pinned
 returns-then-place-pinned c =
-    let here = pin_here (words_in c.args.self.now) c.in-Pin.pinned c.args.place c.in-ok-word.word c.if-pinned-gt0.true c.if-place-pinned.true (cc c.in-ok-word.was) in
+    let here = pin_here (words_in c.args.self.now) c.in-Pin.pinned c.args.place c.in_ok-word-in-Pin.word c.if-pinned-gt0.true c.if-place-pinned.true (cc c.in_ok-word-in-Pin.was) in
     rw c.in-Pin.is (c.get-then-place-pinned.ensures ∙ sym here)
 
 pub returns-else-pinned-gt0 : goal.returns-else-pinned-gt0
@@ -21,5 +21,5 @@ returns-else-pinned-gt0 c =
       | else-pinned-gt0-via-then-pinned-gt0+else-place-pinned w ↦ inr w.if-place-pinned.false
       | else-pinned-gt0-via-else-pinned-gt0 w ↦ inl (omega arith)
     ]) in
-    let was = c.in-ok-word.was in
-    rw c.in-Pin.is (sym was ∙ (c.get-under-in-Pin.ensures ∙ sym other))
+    let was = c.in_ok-word-in-Pin.was in
+    rw c.in-Pin.is (sym was ∙ (c.get_under-in-Pin.ensures ∙ sym other))
