@@ -8,8 +8,8 @@ use memory::meaning::Memory;
 
 // Writes the same byte at two addresses of any memory, whatever it answers.
 pub fn put_twice<M: Memory>(memory: &mut M, first: usize, second: usize, byte: u8)
-    ensures stays { stays memory.old memory.new }
-    ensures after { cells memory.new ≡ written (written (cells memory.old) first byte) second byte }
+    ensures stays { M.stays memory.old memory.new }
+    ensures after { M.cells memory.new ≡ written (written (M.cells memory.old) first byte) second byte }
 {
     let _ = memory.write(first, byte);
     let _ = memory.write(second, byte);

@@ -25,25 +25,25 @@ returns-in_err-ask c =
     let image = c.args.image.now in
     let kind = c.args.kind in
     let p = err_from_is_err_and c.from_residual.result c.from_residual.ensures.1 in
-    let no = sym (ap (asked image) c.most-blocks.ensures.value) ∙ refused _ tt c.in_err-ask.field-0.0 (sym c.ask.ensures ∙ c.in_err-ask.was) in
+    let no = sym (ap (asked image) c.most_blocks.ensures.value) ∙ refused _ tt c.in_err-ask.field-0.0 (sym c.ask.ensures ∙ c.in_err-ask.was) in
     rw (p.1, p.2) (sym (ap (λ o. answered (or_else o (blocks_asked (kind_byte kind) 0 (blocks_in image) image)) (blocks_in image)) no))
 
-pub returns-in_err-check-block : goal.returns-in_err-check-block
+pub returns-in_err-check_block : goal.returns-in_err-check_block
 unfolding asked
-returns-in_err-check-block c =
+returns-in_err-check_block c =
     let image = c.args.image.now in
     let kind = c.args.kind in
-    let p = err_from_is_err_and c.from_residual-in_err-check-block.result c.from_residual-in_err-check-block.ensures.1 in
+    let p = err_from_is_err_and c.from_residual-in_err-check_block.result c.from_residual-in_err-check_block.ensures.1 in
     let yeses = accepted _ tt c.in_ok-ask.field-0 (sym c.ask.ensures ∙ c.in_ok-ask.was) in
-    let no = refused _ tt c.in_err-check-block.field-0.0 (sym c.check-block.ensures ∙ c.in_err-check-block.was) in
+    let no = refused _ tt c.in_err-check_block.field-0.0 (sym c.check_block.ensures ∙ c.in_err-check_block.was) in
     let first = stops (kind_byte kind) image c.loop-place.place (blocks_in image) c.loop-place-test.true c.loop-place.invariant _ no in
-    rw (p.1, p.2) (sym (ap (λ o. answered o (blocks_in image)) (blocks_left kind image c.most-blocks.result c.most-blocks.ensures.value yeses ∙ first)))
+    rw (p.1, p.2) (sym (ap (λ o. answered o (blocks_in image)) (blocks_left kind image c.most_blocks.result c.most_blocks.ensures.value yeses ∙ first)))
 
 pub loop-place-preserved : goal.loop-place-preserved
 loop-place-preserved c =
     let image = c.args.image.now in
     passes (kind_byte c.args.kind) image c.loop-place.place (blocks_in image) c.loop-place-test.true c.loop-place.invariant
-    (accepted _ tt c.in_ok-check-block.field-0 (sym c.check-block.ensures ∙ c.in_ok-check-block.was))
+    (accepted _ tt c.in_ok-check_block.field-0 (sym c.check_block.ensures ∙ c.in_ok-check_block.was))
 
 pub returns : goal.returns
 unfolding asked
@@ -53,4 +53,4 @@ returns c =
     let over : 0 ≡ blocks_in image - c.loop-place.place = omega arith in
     let none : None ≡ blocks_asked (kind_byte kind) 0 (blocks_in image) image = ap (λ n. blocks_asked (kind_byte kind) c.loop-place.place n (drop (512 * c.loop-place.place) image)) over ∙ c.loop-place.invariant in
     let yeses = accepted _ tt c.in_ok-ask.field-0 (sym c.ask.ensures ∙ c.in_ok-ask.was) in
-    sym (ap (λ o. answered o (blocks_in image)) (blocks_left kind image c.most-blocks.result c.most-blocks.ensures.value yeses ∙ sym none))
+    sym (ap (λ o. answered o (blocks_in image)) (blocks_left kind image c.most_blocks.result c.most_blocks.ensures.value yeses ∙ sym none))

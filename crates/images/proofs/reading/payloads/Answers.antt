@@ -12,7 +12,7 @@ loop-place-preserved c =
     let place = c.loop-place.place in
     let n = c.in_ok-blocks.blocks in
     let items = vec_items c.loop-place.bytes in
-    let more = c.in_ok-extend-from-slice.ensures.items in
+    let more = c.in_ok-extend_from_slice.ensures.items in
     ap (λ l. l ++ payloads_of (n - (place + 1)) (drop (512 * (place + 1)) image)) more ∙ payloads_more image items place n c.loop-place-test.true c.loop-place.invariant
 
 pub returns : goal.returns

@@ -20,9 +20,9 @@ loop-place-preserved c =
     let bytes = c.args.bytes.now in
     let place = c.loop-place.place in
     let n = c.div_ceil-blocks.result in
-    let more = c.in_ok-extend-from-slice.ensures.items in
+    let more = c.in_ok-extend_from_slice.ensures.items in
     ap (λ l. l ++ sealed_from kind (place + 1) (n - (place + 1)) (drop (496 * (place + 1)) bytes)) more
-    ∙ sealed_more kind bytes (vec_items c.loop-place.image) place n c.min-to.result c.fill-up-payload.result c.seal_block.result c.loop-place-test.true c.loop-place.invariant c.min-to.ensures c.fill-up-payload.ensures c.seal_block.ensures
+    ∙ sealed_more kind bytes (vec_items c.loop-place.image) place n c.min-to.result c.fill_up-payload.result c.seal_block.result c.loop-place-test.true c.loop-place.invariant c.min-to.ensures c.fill_up-payload.ensures c.seal_block.ensures
 
 pub returns : goal.returns
 returns c =
@@ -35,6 +35,6 @@ returns c =
     let all : items ≡ sealed_from (kind_byte kind) 0 n bytes = sym (append-nil items) ∙ sym (ap (λ m. items ++ sealed_from (kind_byte kind) place m (drop (496 * place) bytes)) over) ∙ c.loop-place.invariant in
     let whole : items ≡ sealed_all kind bytes = all ∙ ap (λ m. sealed_from (kind_byte kind) 0 m bytes) c.div_ceil-blocks.ensures in
     let passes : first_no (sizes kind (blocks_for bytes)) ≡ None =
-    sym (ap (asked (blocks_for bytes)) c.most-blocks.ensures.value) ∙ sym (ap (λ m. asked m c.most-blocks.result) c.div_ceil-blocks.ensures)
+    sym (ap (asked (blocks_for bytes)) c.most_blocks.ensures.value) ∙ sym (ap (λ m. asked m c.most_blocks.result) c.div_ceil-blocks.ensures)
     ∙ accepted _ tt c.in_ok-ask.field-0 (sym c.ask.ensures ∙ c.in_ok-ask.was) in
     record { answers = (passes, whole); back = ap (read_back kind) whole ∙ reads_back_all kind bytes (λ i. (c.type_inv.bytes i).fits) passes }

@@ -20,8 +20,8 @@ loop-place-preserved c =
     let here = c.loop-place-test.true in
     let bundle = c.decode_from.new.self in
     let some = means_here bytes place n here (Some bundle) c.in-Some.ensures.value in
-    let pushed = c.push-reserved.ensures in
-    let room : n ≤ vec_capacity c.push-reserved.new.self = omega (arith, pushed.capacity, c.loop-place.invariant.3) in (
+    let pushed = c.push_reserved.ensures in
+    let room : n ≤ vec_capacity c.push_reserved.new.self = omega (arith, pushed.capacity, c.loop-place.invariant.3) in (
       passes bytes place n here bundle c.loop-place.invariant.0 some,
       ap (λ l. l ++ bundles_of (n - (place + 1)) (drop (16 * (place + 1)) bytes)) pushed.items ∙ gathers bytes place n here bundle (vec_items c.loop-place.bundles) c.loop-place.invariant.1 some,
       pushed.len ∙ ap (λ m. m + 1) c.loop-place.invariant.2,

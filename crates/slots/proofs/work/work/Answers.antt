@@ -16,6 +16,6 @@ returns c =
     let same : held_at c.args.stacks.now (stack_number c.args.number) ≡ held (get_or c.args.stacks.now c.number.result c.index-stacks-number.result) =
     ap (held_at c.args.stacks.now) (sym c.number.ensures.value) ∙ held_at_lem c.args.stacks.now c.number.result c.index-stacks-number.result short in
     record {
-      value = worked_at c.args.operation (words_of stacks) c.args.next c.work-on.new.draft own here c.of.result (latch_of c.args.latches c.args.number) same c.of.ensures c.work-on.ensures.value;
-      fits = fits_at c.work-on.new.draft own here same c.work-on.ensures.fits;
+      value = worked_at c.args.operation (words_of stacks) c.args.next c.work_on.new.draft own here c.of.result (latch_of c.args.latches c.args.number) same c.of.ensures c.work_on.ensures.value;
+      fits = fits_at c.work_on.new.draft own here same c.work_on.ensures.fits;
     }
