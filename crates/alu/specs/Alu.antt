@@ -10,13 +10,13 @@ use Rattle.operations.specs.declared.kinds.Scan.{Scan}
 use Rattle.operations.specs.declared.kinds.Scan.TheVariants.{First, Ones}
 use Rattle.operations.specs.declared.kinds.Shift.{Shift}
 use Rattle.operations.specs.declared.kinds.Shift.TheVariants.{Asr, Lsr, Ror, Rorc, Asl, Lsl, Rol, Rolc}
-use Rattle.bits.specs.Bits.{and, ff1, or, popc, xor}
-use Rattle.conditions.specs.Conditions.{flag_word, holds, of_word}
-use Rattle.latch.specs.Latch.{fetch, fetch_added, fetch_negated, fetch_subtracted, mul, pass, umul}
-use Rattle.shifts.specs.Shifts.{asl, asr, lsl, lsr, rol, rolc, ror, rorc}
-use Rattle.sums.specs.Sums.{add, addc, sub, subc, subcr, subr}
-use Rattle.conditions.specs.declared.condition.Condition.{Condition}
-use Rattle.latch.specs.declared.fetches.Accumulated.{Accumulated}
+use Rattle.words.specs.Bits.{and, ff1, or, popc, xor}
+use Rattle.words.specs.Conditions.{flag_word, holds, of_word}
+use Rattle.words.specs.Latch.{fetch, fetch_added, fetch_negated, fetch_subtracted, mul, pass, umul}
+use Rattle.words.specs.Shifts.{asl, asr, lsl, lsr, rol, rolc, ror, rorc}
+use Rattle.words.specs.Sums.{add, addc, sub, subc, subcr, subr}
+use Rattle.words.specs.declared.condition.Condition.{Condition}
+use Rattle.words.specs.declared.fetches.Accumulated.{Accumulated}
 use Rattle.words.specs.declared.flagged.Flagged.{Flagged}
 
 -- one word of two; or, and and xor leave the flags

@@ -2,8 +2,8 @@
 ghost use Rattle.std.specs.Prelude.{◌≡◌};
 ghost use Rattle.alu.specs.Alu.{fetched, product};
 
-use latch::fetches::Accumulated;
-use latch::{fetches, products};
+use words::fetches::Accumulated;
+use words::{fetches, products};
 use operations::kinds::{Fetch, Multiply};
 
 // The number that the latch then has: n1 is the word below the top, n2 the top.

@@ -2,8 +2,9 @@
 ghost use Rattle.std.specs.Prelude.{◌≡◌};
 ghost use Rattle.alu.specs.Alu.{append, flag_of, scanned, shifted};
 
-use conditions::condition::Condition;
-use conditions::status::{Status, flag_word};
+use words::condition::Condition;
+use words::status::{Status, flag_word};
+use words::{bits, shifts, sums};
 use operations::kinds::{Scan, Shift};
 use words::flagged::Flagged;
 

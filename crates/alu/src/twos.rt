@@ -2,6 +2,7 @@
 ghost use Rattle.std.specs.Prelude.{◌≡◌};
 ghost use Rattle.alu.specs.Alu.{combine};
 
+use words::{bits, shifts, sums};
 use operations::kinds::Binary;
 use words::flagged::Flagged;
 

@@ -5,7 +5,7 @@ use Rattle.branches.specs.Checks.{bits, decoded_check}
 use Rattle.branches.specs.Stacks.{decoded_stacks}
 use Rattle.branches.specs.declared.branch.Choice.{Choice}
 use Rattle.branches.specs.declared.checks.Check.{Check}
-use Rattle.conditions.specs.Numbers.{conditions}
+use Rattle.operations.specs.Conditions.{conditions}
 use Rattle.std.specs.List.{slice_get}
 
 module _ (low high : ℕ) (small : low < 16) where

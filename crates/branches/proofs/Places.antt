@@ -28,8 +28,8 @@ module _ (a b c d : ℕ) (small-a : a < 256) (small_b : b < 256) (small-c : c < 
       let fourth : sum % 256 ≡ d = omega arith in
       simp (e, first, second, third, fourth)
 
-  pub target-only : IfSome (decoded_target a b c d) (λ target. encoded_target target ≡ a ∷ b ∷ c ∷ d ∷ [])
-  target-only = found_if sum (whole sum) refl (λ target. encoded_target target ≡ a ∷ b ∷ c ∷ d ∷ []) joined
+  pub target_only : IfSome (decoded_target a b c d) (λ target. encoded_target target ≡ a ∷ b ∷ c ∷ d ∷ [])
+  target_only = found_if sum (whole sum) refl (λ target. encoded_target target ≡ a ∷ b ∷ c ∷ d ∷ []) joined
 
 -- a word is made of its four bytes
 digits : (w : ℕ) → w < 2 ^ 32 → w / 16777216 % 256 * 16777216 + w / 65536 % 256 * 65536 + w / 256 % 256 * 256 + w % 256 ≡ w

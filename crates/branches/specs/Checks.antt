@@ -1,9 +1,9 @@
 -- Condition bytes: the condition in bits 0 to 3, and bit 4 if it pops.
 use Rattle.std.specs.Prelude.{ℕ, ◌+◌, ◌*◌, ◌/◌, ◌%◌, Bool, true, false, List, [], ◌∷◌, Some, None, Option}
 use Rattle.branches.specs.declared.checks.Check.{Check}
-use Rattle.conditions.specs.Numbers.{condition_number, conditions}
+use Rattle.operations.specs.Conditions.{condition_number, conditions}
 use Rattle.std.specs.List.{slice_get}
-use Rattle.conditions.specs.declared.condition.Condition.{Condition}
+use Rattle.words.specs.declared.condition.Condition.{Condition}
 
 -- the values of a bit
 abbrev pub bits : List Bool

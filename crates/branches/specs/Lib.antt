@@ -5,4 +5,5 @@ pub mod Near
 pub mod Offsets
 pub mod Stacks
 pub mod Targets
+pub mod Text
 pub mod Whole

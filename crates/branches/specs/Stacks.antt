@@ -3,8 +3,8 @@ use Rattle.std.specs.Prelude.{◌≡◌, ℕ, ◌+◌, ◌*◌, ◌/◌, ◌%◌
 use Rattle.branches.specs.Checks.{bit}
 use Rattle.branches.specs.Named.{any_of}
 use Rattle.branches.specs.declared.stacks.Stacks.{Stacks}
-use Rattle.places.specs.declared.StackNumber.{StackNumber}
-use Rattle.places.specs.declared.StackNumber.TheVariants.{Zero, One, Two, Three}
+use Rattle.operations.specs.declared.places.StackNumber.{StackNumber}
+use Rattle.operations.specs.declared.places.StackNumber.TheVariants.{Zero, One, Two, Three}
 
 -- the stacks named, where it is known whether there are any
 abbrev pub stacks_if : (zero one two three is : Bool) → any_of zero one two three ≡ is → Option Stacks

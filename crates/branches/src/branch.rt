@@ -8,7 +8,7 @@ use super::offset::Offset;
 use super::stacks::Stacks;
 
 // Whether one stack whose condition holds is enough, or all that are named must hold.
-#[derive(Clone, Copy)]
+#[derive(Clone, Copy, PartialEq, Eq, Debug)]
 pub enum Needed {
     One,
     All,
@@ -36,7 +36,7 @@ impl Needed {
 }
 
 // What is asked, of which stacks, and how many must say yes.
-#[derive(Clone, Copy)]
+#[derive(Clone, Copy, PartialEq, Eq, Debug)]
 pub struct Choice {
     pub check: Check,
     pub stacks: Stacks,
@@ -44,7 +44,7 @@ pub struct Choice {
 }
 
 impl Choice {
-    fn decode(condition: u8, named: u8) -> Option<Choice>
+    pub fn decode(condition: u8, named: u8) -> Option<Choice>
         ensures value { result ≡ decoded_choice condition named }
         ensures only { IfSome result (λ choice. encoded_choice choice ≡ condition ∷ named ∷ []) }
     {
@@ -58,7 +58,7 @@ impl Choice {
         })
     }
 
-    fn encode(self) -> [u8; 2]
+    pub fn encode(self) -> [u8; 2]
         ensures value { result ≡ encoded_choice self }
         ensures back { decoded_choice (slice_index result 0) (slice_index result 1) ≡ Some self }
         ensures some { 0 < slice_index result 1 }
@@ -71,14 +71,14 @@ impl Choice {
 }
 
 // Whether a branch is taken: always, or by what stacks say.
-#[derive(Clone, Copy)]
+#[derive(Clone, Copy, PartialEq, Eq, Debug)]
 pub enum Taken {
     Always,
     If(Choice),
 }
 
 impl Taken {
-    fn decode(condition: u8, named: u8) -> Option<Taken>
+    pub fn decode(condition: u8, named: u8) -> Option<Taken>
         ensures value { result ≡ decoded_taken condition named }
         ensures only { IfSome result (λ taken. encoded_taken taken ≡ condition ∷ named ∷ []) }
     {
@@ -89,7 +89,7 @@ impl Taken {
         }
     }
 
-    fn encode(self) -> [u8; 2]
+    pub fn encode(self) -> [u8; 2]
         ensures value { result ≡ encoded_taken self }
         ensures back { decoded_taken (slice_index result 0) (slice_index result 1) ≡ Some self }
     {
@@ -100,7 +100,7 @@ impl Taken {
     }
 }
 
-#[derive(Clone, Copy)]
+#[derive(Clone, Copy, PartialEq, Eq, Debug)]
 pub struct Branch {
     pub taken: Taken,
     pub offset: Offset,

@@ -3,10 +3,11 @@ ghost use Rattle.std.specs.Prelude.{◌≡◌, ◌<◌, IfSome, Some};
 ghost use Rattle.branches.specs.Checks.{bit, bits, decoded_check, encoded_check};
 ghost use Rattle.std.specs.List.{slice_get};
 
-use conditions::condition::Condition;
+use operations::conditions::{condition_of, number_of};
+use words::condition::Condition;
 
 // A condition, and whether it pops the word that it looks at.
-#[derive(Clone, Copy)]
+#[derive(Clone, Copy, PartialEq, Eq, Debug)]
 pub struct Check {
     pub condition: Condition,
     pub pops: bool,
@@ -17,7 +18,7 @@ impl Check {
         ensures value { result ≡ decoded_check byte }
         ensures only { IfSome result (λ check. encoded_check check ≡ byte) }
     {
-        let condition = Condition::from_number(byte % 16)?;
+        let condition = condition_of(byte % 16)?;
         let pops = read_bit(byte / 16)?;
         Some(Check { condition, pops })
     }
@@ -26,7 +27,7 @@ impl Check {
         ensures value { result ≡ encoded_check self }
         ensures back { decoded_check result ≡ Some self }
     {
-        self.condition.number() + 16 * write_bit(self.pops)
+        number_of(self.condition) + 16 * write_bit(self.pops)
     }
 }
 

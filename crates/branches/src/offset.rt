@@ -5,7 +5,7 @@ ghost use Rattle.branches.specs.Near.{near};
 mod bytes;
 
 // A signed number of bundles, counted from the next one: -1,024 to 1,023.
-#[derive(Clone, Copy)]
+#[derive(Clone, Copy, PartialEq, Eq, Debug)]
 pub struct Offset {
     bundles: i16,
     ghost close: { near bundles ≡ true },

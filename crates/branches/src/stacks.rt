@@ -5,7 +5,7 @@ ghost use Rattle.branches.specs.Named.{any_of};
 mod bits;
 
 // Which of the four stacks are named: one at least.
-#[derive(Clone, Copy)]
+#[derive(Clone, Copy, PartialEq, Eq, Debug)]
 pub struct Stacks {
     zero: bool,
     one: bool,

@@ -5,7 +5,7 @@ ghost use Rattle.branches.specs.Whole.{whole};
 mod bytes;
 
 // The address of a bundle: a multiple of 8.
-#[derive(Clone, Copy)]
+#[derive(Clone, Copy, PartialEq, Eq, Debug)]
 pub struct Target {
     address: u32,
     ghost bundle: { whole address ≡ true },

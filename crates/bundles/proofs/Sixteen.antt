@@ -1,5 +1,5 @@
 -- A list of sixteen bytes is made of its elements, and a bundle's parts give the whole.
-use Rattle.std.proofs.Common.{◌≡◌, ℕ, zero, suc, ◌+◌, ◌<◌, List, [], ◌∷◌, ◌++◌, length, get_or, drop, Some, None, Option, sym, refl, ap, ◌∙◌, add-one, arith, drop-cons}
+use Rattle.std.proofs.Common.{◌≡◌, ℕ, zero, suc, ◌+◌, ◌<◌, List, [], ◌∷◌, ◌++◌, length, get_or, drop, Some, Option, sym, refl, ap, ◌∙◌, add-one, arith, drop-cons}
 use Rattle.bundles.specs.Bundles.{bundle_of, decoded, encoded, ending_at, ending_list, operation_in}
 use Rattle.bundles.specs.Endings.{decoded_ending, encoded_ending}
 use Rattle.bundles.specs.declared.bundle.Bundle.{Bundle}
@@ -51,9 +51,6 @@ parts bundle p q r s a b c d = simp (a, b, c, d)
 module _ (xs : List ℕ) (long : length xs ≡ 16) (bundle : Bundle) where
   pub decoded_is : operation_in xs 0 1 ≡ Some bundle.slot0 → operation_in xs 2 3 ≡ Some bundle.slot1 → operation_in xs 4 5 ≡ Some bundle.slot2 → decoded_ending (ending_at xs) ≡ Some bundle.ending → decoded xs ≡ Some bundle
   decoded_is a b c e = simp (eq-eqb (length xs) 16 long, a, b, c, e)
-
-  pub decoded_not : operation_in xs 0 1 ≡ Some bundle.slot0 → operation_in xs 2 3 ≡ Some bundle.slot1 → operation_in xs 4 5 ≡ Some bundle.slot2 → decoded_ending (ending_at xs) ≡ None → decoded xs ≡ None
-  decoded_not a b c e = simp (eq-eqb (length xs) 16 long, a, b, c, e)
 
   pub encoded_is :
       encoded_operation bundle.slot0 ≡ get_or xs 0 0 ∷ get_or xs 1 0 ∷ [] → encoded_operation bundle.slot1 ≡ get_or xs 2 0 ∷ get_or xs 3 0 ∷ [] → encoded_operation bundle.slot2 ≡ get_or xs 4 0 ∷ get_or xs 5 0 ∷ []

@@ -9,8 +9,8 @@ use Rattle.operations.specs.Operations.{decoded_operation, encoded_operation}
 use Rattle.operations.specs.declared.kinds.Special.TheVariants.{FetchIp}
 use Rattle.operations.specs.declared.operation.Operation.{Operation}
 use Rattle.operations.specs.declared.operation.Operation.TheVariants.{Nop, Special}
-use Rattle.places.specs.declared.StackNumber.{StackNumber}
-use Rattle.places.specs.declared.StackNumber.TheVariants.{Zero, One, Two, Three}
+use Rattle.operations.specs.declared.places.StackNumber.{StackNumber}
+use Rattle.operations.specs.declared.places.StackNumber.TheVariants.{Zero, One, Two, Three}
 
 -- a bundle of its four parts, if they are all there
 abbrev pub bundle_of : Option Operation → Option Operation → Option Operation → Option Ending → Option Bundle

@@ -1,3 +1,4 @@
 pub mod Bundles
 pub mod Endings
 pub mod Tails
+pub mod Text

@@ -1,16 +1,14 @@
 // Bundles.
-ghost use Rattle.std.specs.Prelude.{◌≡◌, length, IfSome, Some, OnSome};
+ghost use Rattle.std.specs.Prelude.{◌≡◌, length, IfSome, Some};
 ghost use Rattle.bundles.specs.Bundles.{decoded, encoded, ending_at, operation_at};
-ghost use Rattle.std.specs.Option.{option_map};
 
 use super::ending::{Ending, EndingBytes};
-use super::tails::{Tail, TailBytes};
-use moves::moving::Move;
+use super::tails::TailBytes;
 use operations::kinds::Special;
 use operations::operation::Operation;
-use places::StackNumber;
+use operations::places::StackNumber;
 
-#[derive(Clone, Copy)]
+#[derive(Clone, Copy, PartialEq, Eq, Debug)]
 pub struct Bundle {
     pub slot0: Operation,
     pub slot1: Operation,
@@ -18,38 +16,25 @@ pub struct Bundle {
     pub ending: Ending,
 }
 
-// Four slots and two sides that do nothing.
-pub const IDLE: Bundle = Bundle {
-    slot0: Operation::Nop,
-    slot1: Operation::Nop,
-    slot2: Operation::Nop,
-    ending: Ending::Slot(Operation::Nop, Tail::Moves(Move::Idle, Move::Idle)),
-};
-
 impl Bundle {
     // The bundle of sixteen bytes, if they are lawful.
     pub fn decode(bytes: &[u8]) -> Option<Bundle>
         ensures value { result ≡ decoded bytes.now }
         ensures only { IfSome result (λ bundle. encoded bundle ≡ bytes.now) }
     {
-        let mut bundle = IDLE;
-        bundle.decode_from(bytes)?;
-        Some(bundle)
-    }
-
-    // The same, written where a bundle stands; a refusal may leave another one there.
-    pub fn decode_from(&mut self, bytes: &[u8]) -> Option<()>
-        ensures value { option_map (λ _. self.new) result ≡ decoded bytes.now }
-        ensures only { OnSome result (encoded self.new ≡ bytes.now) }
-    {
         if bytes.len() != 16 {
             return None;
         }
-        self.slot0.decode_from(bytes[0], bytes[1])?;
-        self.slot1.decode_from(bytes[2], bytes[3])?;
-        self.slot2.decode_from(bytes[4], bytes[5])?;
-        self.ending.decode_from(ending_bytes(bytes))?;
-        Some(())
+        let slot0 = Operation::decode(bytes[0], bytes[1])?;
+        let slot1 = Operation::decode(bytes[2], bytes[3])?;
+        let slot2 = Operation::decode(bytes[4], bytes[5])?;
+        let ending = Ending::decode(ending_bytes(bytes))?;
+        Some(Bundle {
+            slot0,
+            slot1,
+            slot2,
+            ending,
+        })
     }
 
     // Its sixteen bytes.

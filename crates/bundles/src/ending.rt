@@ -1,15 +1,13 @@
 // The end of a bundle: slot 3 and the tail.
-ghost use Rattle.std.specs.Prelude.{◌≡◌, IfSome, Some, OnSome};
+ghost use Rattle.std.specs.Prelude.{◌≡◌, IfSome, Some};
 ghost use Rattle.bundles.specs.Endings.{decoded_ending, encoded_ending, leap_bytes, leap_target, slotted};
-ghost use Rattle.std.specs.Option.{option_map};
 
 use super::tails::{Tail, TailBytes};
 use branches::targets::Target;
-use moves::moving::Move;
 use operations::operation::Operation;
 
 // The last ten bytes of a bundle by their places: bytes 6 and 7 are slot 3.
-#[derive(Clone, Copy)]
+#[derive(Clone, Copy, PartialEq, Eq, Debug)]
 pub struct EndingBytes {
     pub b6: u8,
     pub b7: u8,
@@ -17,7 +15,7 @@ pub struct EndingBytes {
 }
 
 // A call or a jump stands in the place of slot 3's operation.
-#[derive(Clone, Copy)]
+#[derive(Clone, Copy, PartialEq, Eq, Debug)]
 pub enum Ending {
     Slot(Operation, Tail),
     Call(Target),
@@ -25,40 +23,19 @@ pub enum Ending {
 }
 
 impl Ending {
-    // The ending of ten bytes, written where an ending stands; a refusal may leave another one there.
-    pub(super) fn decode_from(&mut self, bytes: EndingBytes) -> Option<()>
-        ensures value { option_map (λ _. self.new) result ≡ decoded_ending bytes }
-        ensures only { OnSome result (encoded_ending self.new ≡ bytes) }
+    pub fn decode(bytes: EndingBytes) -> Option<Ending>
+        ensures value { result ≡ decoded_ending bytes }
+        ensures only { IfSome result (λ ending. encoded_ending ending ≡ bytes) }
     {
         match bytes.tail.b8 {
-            0 | 1 | 2 => self.slot_from(bytes),
-            3 => {
-                *self = Ending::Call(decode_target(bytes)?);
-                Some(())
-            }
-            4 => {
-                *self = Ending::Jump(decode_target(bytes)?);
-                Some(())
-            }
+            0 | 1 | 2 => decode_slot(bytes),
+            3 => Some(Ending::Call(decode_target(bytes)?)),
+            4 => Some(Ending::Jump(decode_target(bytes)?)),
             _ => None,
         }
     }
 
-    fn slot_from(&mut self, bytes: EndingBytes) -> Option<()>
-        ensures value { option_map (λ _. self.new) result ≡ slotted bytes }
-        ensures only { OnSome result (encoded_ending self.new ≡ bytes) }
-    {
-        *self = Ending::Slot(Operation::Nop, Tail::Moves(Move::Idle, Move::Idle));
-        match self {
-            Ending::Slot(operation, tail) => {
-                operation.decode_from(bytes.b6, bytes.b7)?;
-                tail.decode_from(bytes.tail)
-            }
-            _ => None,
-        }
-    }
-
-    pub(super) fn encode(self) -> EndingBytes
+    pub fn encode(self) -> EndingBytes
         ensures value { result ≡ encoded_ending self }
         ensures back { decoded_ending result ≡ Some self }
     {
@@ -75,6 +52,15 @@ impl Ending {
             Ending::Jump(target) => encode_target(4, target),
         }
     }
+}
+
+fn decode_slot(bytes: EndingBytes) -> Option<Ending>
+    ensures value { result ≡ slotted bytes }
+    ensures only { IfSome result (λ ending. encoded_ending ending ≡ bytes) }
+{
+    let operation = Operation::decode(bytes.b6, bytes.b7)?;
+    let tail = Tail::decode(bytes.tail)?;
+    Some(Ending::Slot(operation, tail))
 }
 
 // The target of a call or a jump, if all bytes but the format and the target are 0.

@@ -3,3 +3,4 @@
 pub mod bundle;
 pub mod ending;
 pub mod tails;
+pub mod text;

@@ -1,14 +1,13 @@
 // What stands beside four operations: moves, a setup or a branch.
-ghost use Rattle.std.specs.Prelude.{◌≡◌, IfSome, Some, OnSome};
+ghost use Rattle.std.specs.Prelude.{◌≡◌, IfSome, Some};
 ghost use Rattle.bundles.specs.Tails.{branching, decoded_tail, encoded_tail, moving, setting_up, setup_bytes};
-ghost use Rattle.std.specs.Option.{option_map};
 
 use branches::branch::Branch;
 use branches::checks::Check;
 use moves::moving::Move;
 
 // The last eight bytes of a bundle by their places: byte 8 is the format.
-#[derive(Clone, Copy)]
+#[derive(Clone, Copy, PartialEq, Eq, Debug)]
 pub struct TailBytes {
     pub b8: u8,
     pub b9: u8,
@@ -21,7 +20,7 @@ pub struct TailBytes {
 }
 
 // A check for each stack.
-#[derive(Clone, Copy)]
+#[derive(Clone, Copy, PartialEq, Eq, Debug)]
 pub struct Setup {
     pub zero: Check,
     pub one: Check,
@@ -29,7 +28,7 @@ pub struct Setup {
     pub three: Check,
 }
 
-#[derive(Clone, Copy)]
+#[derive(Clone, Copy, PartialEq, Eq, Debug)]
 pub enum Tail {
     // the even side's move, then the odd side's
     Moves(Move, Move),
@@ -38,44 +37,19 @@ pub enum Tail {
 }
 
 impl Tail {
-    // The tail of eight bytes, written where a tail stands; a refusal may leave another one there.
-    pub(super) fn decode_from(&mut self, bytes: TailBytes) -> Option<()>
-        ensures value { option_map (λ _. self.new) result ≡ decoded_tail bytes }
-        ensures only { OnSome result (encoded_tail self.new ≡ bytes) }
+    pub fn decode(bytes: TailBytes) -> Option<Tail>
+        ensures value { result ≡ decoded_tail bytes }
+        ensures only { IfSome result (λ tail. encoded_tail tail ≡ bytes) }
     {
         match bytes.b8 {
-            0 => self.moves_from(bytes),
-            1 => {
-                *self = decode_setup(bytes)?;
-                Some(())
-            }
-            2 => {
-                *self = decode_branch(bytes)?;
-                Some(())
-            }
+            0 => decode_moves(bytes),
+            1 => decode_setup(bytes),
+            2 => decode_branch(bytes),
             _ => None,
         }
     }
 
-    fn moves_from(&mut self, bytes: TailBytes) -> Option<()>
-        requires { bytes.b8 ≡ 0 }
-        ensures value { option_map (λ _. self.new) result ≡ moving bytes }
-        ensures only { OnSome result (encoded_tail self.new ≡ bytes) }
-    {
-        if bytes.b15 != 0 {
-            return None;
-        }
-        *self = Tail::Moves(Move::Idle, Move::Idle);
-        match self {
-            Tail::Moves(even, odd) => {
-                even.decode_from(bytes.b9, bytes.b10, bytes.b11)?;
-                odd.decode_from(bytes.b12, bytes.b13, bytes.b14)
-            }
-            _ => None,
-        }
-    }
-
-    pub(super) fn encode(self) -> TailBytes
+    pub fn encode(self) -> TailBytes
         ensures value { result ≡ encoded_tail self }
         ensures back { decoded_tail result ≡ Some self }
     {
@@ -110,6 +84,19 @@ impl Tail {
             }
         }
     }
+}
+
+fn decode_moves(bytes: TailBytes) -> Option<Tail>
+    requires { bytes.b8 ≡ 0 }
+    ensures value { result ≡ moving bytes }
+    ensures only { IfSome result (λ tail. encoded_tail tail ≡ bytes) }
+{
+    if bytes.b15 != 0 {
+        return None;
+    }
+    let even = Move::decode(bytes.b9, bytes.b10, bytes.b11)?;
+    let odd = Move::decode(bytes.b12, bytes.b13, bytes.b14)?;
+    Some(Tail::Moves(even, odd))
 }
 
 fn decode_setup(bytes: TailBytes) -> Option<Tail>

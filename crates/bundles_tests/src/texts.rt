@@ -1,6 +1,5 @@
 // Bundles in words.
 use bundles::bundle::Bundle;
-use listing::written::Written;
 use std::process::Abort;
 use std::test::Fail;
 
@@ -11,7 +10,7 @@ fn check_text(
 ) -> Result<(), Fail> {
     match Bundle::decode(&bytes) {
         Some(bundle) => {
-            let text = Written(bundle).to_string(rt.alloc())?;
+            let text = bundle.to_string(rt.alloc())?;
             assert_eq!(rt; text.as_str(), expected);
             Ok(())
         }

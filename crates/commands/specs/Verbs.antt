@@ -4,7 +4,7 @@ use Rattle.std.specs.Str.{bytes_eq}
 use Rattle.blocks.specs.declared.kinds.Kind.{Kind}
 use Rattle.blocks.specs.declared.kinds.Kind.TheVariants.{Code, Table}
 use Rattle.commands.specs.declared.verbs.Verb.{Verb}
-use Rattle.commands.specs.declared.verbs.Verb.TheVariants.{Seal, Check, Show, List as Lists, Read, Slot, Help}
+use Rattle.commands.specs.declared.verbs.Verb.TheVariants.{Seal, Check, Show, List as Lists, Read, Help}
 
 -- what the first entry of a list of words stands for that is this word
 abbrev pub named : {X : Type 0} → List (List ℕ × X) → List ℕ → Option X
@@ -19,7 +19,6 @@ verb_named = named (
     ∷ (codes "show", Show)
     ∷ (codes "list", Lists)
     ∷ (codes "read", Read)
-    ∷ (codes "slot", Slot)
     ∷ (codes "help", Help)
     ∷ [])
 

@@ -11,7 +11,6 @@ pub enum Verb {
     Show,
     List,
     Read,
-    Slot,
     Help,
 }
 
@@ -26,7 +25,6 @@ impl Verb {
             "show" => Some(Verb::Show),
             "list" => Some(Verb::List),
             "read" => Some(Verb::Read),
-            "slot" => Some(Verb::Slot),
             "help" => Some(Verb::Help),
             _ => None,
         }
@@ -42,10 +40,6 @@ impl fmt::Display for Verb {
             Verb::Show => write!(f, "show IMAGE [--payload]"),
             Verb::List => write!(f, "list IMAGE"),
             Verb::Read => write!(f, "read IMAGE ADDRESS [COUNT]"),
-            Verb::Slot => write!(
-                f,
-                "slot \"OPERATION ARGUMENT\" WORD.. [/ WORD..] [--carry] [--overflow] [--skip] [--count N] [--latch N] [--next ADDRESS]"
-            ),
             Verb::Help => write!(f, "help"),
         }
     }

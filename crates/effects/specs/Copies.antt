@@ -1,8 +1,8 @@
 -- The stack effects of the own places, line by line.
 use Rattle.std.specs.Prelude.{◌≡◌, ℕ, List, ◌∷◌, Some, Option}
-use Rattle.operands.specs.declared.Operand.TheVariants.{Own}
-use Rattle.places.specs.declared.Place.TheVariants.{S0, S1, S2, S3, S4, S5, S6, S7}
-use Rattle.places.specs.declared.StackNumber.{StackNumber}
+use Rattle.operations.specs.declared.operands.Operand.TheVariants.{Own}
+use Rattle.operations.specs.declared.places.Place.TheVariants.{S0, S1, S2, S3, S4, S5, S6, S7}
+use Rattle.operations.specs.declared.places.StackNumber.{StackNumber}
 use Rattle.effects.specs.Operands.{effect}
 
 -- s0: x — x x, s1: x0 x1 — x0 x1 x0, .. s7: x0 .. x7 — x0 .. x7 x0

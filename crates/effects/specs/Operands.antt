@@ -1,13 +1,13 @@
 -- What an operand does to a stack before its operation. Lists have the top first; beside each line stands the
 -- stack effect with the top last.
 use Rattle.std.specs.Prelude.{ℕ, List, [], ◌∷◌, Some, None, Option}
-use Rattle.operands.specs.Operands.{constant_value}
-use Rattle.places.specs.Places.{near_number, place_number, stack_number}
-use Rattle.operands.specs.declared.Operand.{Operand}
-use Rattle.operands.specs.declared.Operand.TheVariants.{Own, Moved, Other, Constant}
-use Rattle.places.specs.declared.Near.{Near}
-use Rattle.places.specs.declared.Near.TheVariants.{S0, S1, S2, S3}
-use Rattle.places.specs.declared.StackNumber.{StackNumber}
+use Rattle.operations.specs.Operands.{constant_value}
+use Rattle.operations.specs.Places.{near_number, place_number, stack_number}
+use Rattle.operations.specs.declared.operands.Operand.{Operand}
+use Rattle.operations.specs.declared.operands.Operand.TheVariants.{Own, Moved, Other, Constant}
+use Rattle.operations.specs.declared.places.Near.{Near}
+use Rattle.operations.specs.declared.places.Near.TheVariants.{S0, S1, S2, S3}
+use Rattle.operations.specs.declared.places.StackNumber.{StackNumber}
 use Rattle.stacks.specs.Held.{Held, held_at}
 use Rattle.stacks.specs.declared.stack.Stack.{Stack}
 use Rattle.std.specs.List.{slice_get}

@@ -2,15 +2,15 @@
 ghost use Rattle.std.specs.Prelude.{◌≡◌};
 ghost use Rattle.effects.specs.Operands.{effect, moved, words_of};
 ghost use Rattle.effects.specs.Reading.{read_change};
-ghost use Rattle.operands.specs.Operands.{source_operand};
+ghost use Rattle.operations.specs.Operands.{source_operand};
 ghost use Rattle.stacks.specs.Words.{words_in};
 ghost use Rattle.stacks.specs.declared.changes.Change.TheVariants.{Replace};
 ghost use Rattle.stacks.specs.declared.changes.Few.TheVariants.{One};
 ghost use Rattle.std.specs.Option.{option_map};
 
 use super::others::other_word;
-use operands::Source;
-use places::Near;
+use operations::operands::Source;
+use operations::places::Near;
 use stacks::changes::{Change, Few};
 use stacks::stack::Stack;
 use stacks::words::Words;

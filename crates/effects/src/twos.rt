@@ -7,8 +7,8 @@ ghost use Rattle.stacks.specs.Changes.{few_words};
 ghost use Rattle.stacks.specs.Words.{words_in};
 
 use super::others::other_word;
-use operands::Operand;
-use places::Near;
+use operations::operands::Operand;
+use operations::places::Near;
 use stacks::changes::Few;
 use stacks::stack::Stack;
 use stacks::words::Words;

@@ -9,13 +9,13 @@ use Rattle.moves.specs.declared.parts.Size.TheVariants.{One, Two, Four, Eight}
 use Rattle.moves.specs.declared.selectors.Transfer.{Transfer}
 use Rattle.std.specs.Option.{option_map}
 
-load_at : (s : Size) (selector : ℕ) → decoded_move (2 + size_number s) selector 0 ≡ loading (Some s) selector
+load_at : (s : Size) (selector : ℕ) → decoded_move (2 + size_number s) selector 0 ≡ loading s selector 0
 load_at One selector = refl
 load_at Two selector = refl
 load_at Four selector = refl
 load_at Eight selector = refl
 
-store_at : (s : Size) (selector : ℕ) → decoded_move (6 + size_number s) selector 0 ≡ storing (Some s) selector
+store_at : (s : Size) (selector : ℕ) → decoded_move (6 + size_number s) selector 0 ≡ storing s selector 0
 store_at One selector = refl
 store_at Two selector = refl
 store_at Four selector = refl

@@ -1,12 +1,13 @@
 -- Which move a code, a selector and a value byte mean, and the three bytes of a move.
-use Rattle.std.specs.Prelude.{ℕ, ◌+◌, ◌-◌, cond, ◌&&◌, List, [], ◌∷◌, Some, None, Option, ◌==◌, nat_lt}
+use Rattle.std.specs.Prelude.{ℕ, ◌+◌, cond, ◌&&◌, List, [], ◌∷◌, Some, None, Option, ◌==◌}
 use Rattle.std.specs.Int.{w8}
 use Rattle.std.proofs.Common.{of_z, to_z}
-use Rattle.moves.specs.Parts.{size_number, sizes}
+use Rattle.moves.specs.Parts.{size_number}
 use Rattle.moves.specs.Selectors.{access_selector, decoded_access, decoded_transfer, transfer_selector}
 use Rattle.moves.specs.declared.moving.Move.{Move}
 use Rattle.moves.specs.declared.moving.Move.TheVariants.{Idle, Offset, Load, Store, Set, Get}
 use Rattle.moves.specs.declared.parts.Size.{Size}
+use Rattle.moves.specs.declared.parts.Size.TheVariants.{One, Two, Four, Eight}
 use Rattle.std.specs.Option.{option_map}
 use Rattle.std.specs.List.{slice_get}
 
@@ -18,30 +19,40 @@ idle selector value = cond (selector == 0 && value == 0) (Some Idle) None
 abbrev pub offset : ℕ → ℕ → Option Move
 offset selector value = cond (selector == 0) (Some (Offset (to_z w8 value))) None
 
--- a load of a size, if there is one
-abbrev pub loading : Option Size → ℕ → Option Move
-loading None selector = None
-loading (Some size) selector = option_map Load (decoded_transfer size selector)
+-- a load
+abbrev pub loading : Size → ℕ → ℕ → Option Move
+loading size selector value = cond (value == 0) (option_map Load (decoded_transfer size selector)) None
 
--- a store of a size, if there is one
-abbrev pub storing : Option Size → ℕ → Option Move
-storing None selector = None
-storing (Some size) selector = option_map Store (decoded_transfer size selector)
+-- a store
+abbrev pub storing : Size → ℕ → ℕ → Option Move
+storing size selector value = cond (value == 0) (option_map Store (decoded_transfer size selector)) None
 
--- the moves coded 2 to 11, which have a selector and no value
-abbrev pub selected : ℕ → ℕ → Option Move
-selected code selector =
-    cond (nat_lt code 6) (loading (slice_get sizes (code - 2)) selector) (
-    cond (nat_lt code 10) (storing (slice_get sizes (code - 6)) selector) (
-    cond (code == 10) (option_map Set (decoded_access selector)) (
-    cond (code == 11) (option_map Get (decoded_access selector)) None)))
+-- a register is set from a stack
+abbrev pub setting : ℕ → ℕ → Option Move
+setting selector value = cond (value == 0) (option_map Set (decoded_access selector)) None
+
+-- a register is put on a stack
+abbrev pub getting : ℕ → ℕ → Option Move
+getting selector value = cond (value == 0) (option_map Get (decoded_access selector)) None
+
+-- the moves in the order of their codes, each with what the selector and the value make of it
+abbrev pub codes : List (ℕ → ℕ → Option Move)
+codes =
+    idle ∷
+    offset ∷
+    loading One ∷ loading Two ∷ loading Four ∷ loading Eight ∷
+    storing One ∷ storing Two ∷ storing Four ∷ storing Eight ∷
+    setting ∷
+    getting ∷ []
+
+-- what an entry of that list makes of the selector and the value
+abbrev pub given : Option (ℕ → ℕ → Option Move) → ℕ → ℕ → Option Move
+given None selector value = None
+given (Some entry) selector value = entry selector value
 
 -- the move that three bytes mean
 abbrev pub decoded_move : ℕ → ℕ → ℕ → Option Move
-decoded_move code selector value =
-    cond (code == 0) (idle selector value) (
-    cond (code == 1) (offset selector value) (
-    cond (value == 0) (selected code selector) None))
+decoded_move code selector value = given (slice_get codes code) selector value
 
 -- the three bytes of a move
 abbrev pub encoded_move : Move → List ℕ

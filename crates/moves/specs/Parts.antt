@@ -12,11 +12,7 @@ use Rattle.moves.specs.declared.parts.SetNumber.TheVariants as set
 use Rattle.moves.specs.declared.parts.Size.{Size}
 use Rattle.moves.specs.declared.parts.Size.TheVariants as size
 
--- the sizes of loads and stores
-abbrev pub sizes : List Size
-sizes = size.One ∷ size.Two ∷ size.Four ∷ size.Eight ∷ []
-
--- a size's place among them
+-- a size's place among the sizes
 abbrev pub size_number : Size → ℕ
 size_number size.One = 0
 size_number size.Two = 1

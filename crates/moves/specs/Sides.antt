@@ -3,8 +3,8 @@ use Rattle.moves.specs.declared.parts.Half.{Half}
 use Rattle.moves.specs.declared.parts.Half.TheVariants.{Lower, Higher}
 use Rattle.moves.specs.declared.side.Side.{Side}
 use Rattle.moves.specs.declared.side.Side.TheVariants.{Even, Odd}
-use Rattle.places.specs.declared.StackNumber.{StackNumber}
-use Rattle.places.specs.declared.StackNumber.TheVariants.{Zero, One, Two, Three}
+use Rattle.operations.specs.declared.places.StackNumber.{StackNumber}
+use Rattle.operations.specs.declared.places.StackNumber.TheVariants.{Zero, One, Two, Three}
 
 -- a side's stack
 abbrev pub stack_on : Side → Half → StackNumber

@@ -4,3 +4,4 @@ pub mod moving;
 pub mod parts;
 pub mod selectors;
 pub mod side;
+pub mod text;

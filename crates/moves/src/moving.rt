@@ -1,14 +1,12 @@
 // A side's move.
-ghost use Rattle.std.specs.Prelude.{◌≡◌, ◌+◌, ◌≤◌, [], ◌∷◌, IfSome, Some, None, OnSome, slice_index};
-ghost use Rattle.moves.specs.Moves.{decoded_move, encoded_move, idle, loading, offset, selected, storing};
-ghost use Rattle.moves.specs.Parts.{sizes};
-ghost use Rattle.std.specs.Option.{option_map};
-ghost use Rattle.std.specs.List.{slice_get};
+ghost use Rattle.std.specs.Prelude.{◌≡◌, ◌+◌, [], ◌∷◌, IfSome, Some, slice_index};
+ghost use Rattle.moves.specs.Moves.{decoded_move, encoded_move, getting, idle, loading, offset, setting, storing};
+ghost use Rattle.moves.specs.Parts.{size_number};
 
 use super::parts::Size;
 use super::selectors::{Access, Transfer};
 
-#[derive(Clone, Copy)]
+#[derive(Clone, Copy, PartialEq, Eq, Debug)]
 pub enum Move {
     Idle,
     Offset(i8),
@@ -24,25 +22,21 @@ impl Move {
         ensures value { result ≡ decoded_move code selector value }
         ensures only { IfSome result (λ it. encoded_move it ≡ code ∷ selector ∷ value ∷ []) }
     {
-        if code == 0 {
-            decode_idle(selector, value)
-        } else if code == 1 {
-            decode_offset(selector, value)
-        } else if value == 0 {
-            decode_selected(code, selector)
-        } else {
-            None
+        match code {
+            0 => decode_idle(selector, value),
+            1 => decode_offset(selector, value),
+            2 => decode_load(Size::One, selector, value),
+            3 => decode_load(Size::Two, selector, value),
+            4 => decode_load(Size::Four, selector, value),
+            5 => decode_load(Size::Eight, selector, value),
+            6 => decode_store(Size::One, selector, value),
+            7 => decode_store(Size::Two, selector, value),
+            8 => decode_store(Size::Four, selector, value),
+            9 => decode_store(Size::Eight, selector, value),
+            10 => decode_set(selector, value),
+            11 => decode_get(selector, value),
+            _ => None,
         }
-    }
-
-    // The same, written where a move stands; a refusal leaves that as it was.
-    pub fn decode_from(&mut self, code: u8, selector: u8, value: u8) -> Option<()>
-        ensures value { option_map (λ _. self.new) result ≡ decoded_move code selector value }
-        ensures only { OnSome result (encoded_move self.new ≡ code ∷ selector ∷ value ∷ []) }
-        ensures kept { result ≡ None → self.new ≡ self.old }
-    {
-        *self = Move::decode(code, selector, value)?;
-        Some(())
     }
 
     // The code byte, the selector byte and the value byte.
@@ -83,35 +77,44 @@ fn decode_offset(selector: u8, value: u8) -> Option<Move>
     }
 }
 
-fn decode_load(number: u8, selector: u8) -> Option<Move>
-    ensures value { result ≡ loading (slice_get sizes number) selector }
-    ensures only { IfSome result (λ it. encoded_move it ≡ (2 + number) ∷ selector ∷ 0 ∷ []) }
+fn decode_load(size: Size, selector: u8, value: u8) -> Option<Move>
+    ensures value { result ≡ loading size selector value }
+    ensures only { IfSome result (λ it. encoded_move it ≡ (2 + size_number size) ∷ selector ∷ value ∷ []) }
 {
-    let size = Size::from_number(number)?;
-    Some(Move::Load(Transfer::decode(size, selector)?))
+    if value == 0 {
+        Some(Move::Load(Transfer::decode(size, selector)?))
+    } else {
+        None
+    }
 }
 
-fn decode_store(number: u8, selector: u8) -> Option<Move>
-    ensures value { result ≡ storing (slice_get sizes number) selector }
-    ensures only { IfSome result (λ it. encoded_move it ≡ (6 + number) ∷ selector ∷ 0 ∷ []) }
+fn decode_store(size: Size, selector: u8, value: u8) -> Option<Move>
+    ensures value { result ≡ storing size selector value }
+    ensures only { IfSome result (λ it. encoded_move it ≡ (6 + size_number size) ∷ selector ∷ value ∷ []) }
 {
-    let size = Size::from_number(number)?;
-    Some(Move::Store(Transfer::decode(size, selector)?))
+    if value == 0 {
+        Some(Move::Store(Transfer::decode(size, selector)?))
+    } else {
+        None
+    }
 }
 
-// The moves coded 2 to 11, which have a selector and no value.
-fn decode_selected(code: u8, selector: u8) -> Option<Move>
-    requires { 2 ≤ code }
-    ensures value { result ≡ selected code selector }
-    ensures only { IfSome result (λ it. encoded_move it ≡ code ∷ selector ∷ 0 ∷ []) }
+fn decode_set(selector: u8, value: u8) -> Option<Move>
+    ensures value { result ≡ setting selector value }
+    ensures only { IfSome result (λ it. encoded_move it ≡ 10 ∷ selector ∷ value ∷ []) }
 {
-    if code < 6 {
-        decode_load(code - 2, selector)
-    } else if code < 10 {
-        decode_store(code - 6, selector)
-    } else if code == 10 {
+    if value == 0 {
         Some(Move::Set(Access::decode(selector)?))
-    } else if code == 11 {
+    } else {
+        None
+    }
+}
+
+fn decode_get(selector: u8, value: u8) -> Option<Move>
+    ensures value { result ≡ getting selector value }
+    ensures only { IfSome result (λ it. encoded_move it ≡ 11 ∷ selector ∷ value ∷ []) }
+{
+    if value == 0 {
         Some(Move::Get(Access::decode(selector)?))
     } else {
         None

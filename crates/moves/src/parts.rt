@@ -1,10 +1,10 @@
 // What a move is put together from, by number.
 ghost use Rattle.std.specs.Prelude.{◌≡◌, ◌<◌, IfSome, Some};
-ghost use Rattle.moves.specs.Parts.{half_number, halves, mode_number, modes, register_number, registers, set_number, sets, size_bytes, size_number, sizes};
+ghost use Rattle.moves.specs.Parts.{half_number, halves, mode_number, modes, register_number, registers, set_number, sets, size_bytes, size_number};
 ghost use Rattle.std.specs.List.{slice_get};
 
 // How many bytes a load or a store takes.
-#[derive(Clone, Copy)]
+#[derive(Clone, Copy, PartialEq, Eq, Debug)]
 pub enum Size {
     One,
     Two,
@@ -13,19 +13,6 @@ pub enum Size {
 }
 
 impl Size {
-    pub(super) fn from_number(number: u8) -> Option<Size>
-        ensures value { result ≡ slice_get sizes number }
-        ensures only { IfSome result (λ size. size_number size ≡ number) }
-    {
-        match number {
-            0 => Some(Size::One),
-            1 => Some(Size::Two),
-            2 => Some(Size::Four),
-            3 => Some(Size::Eight),
-            _ => None,
-        }
-    }
-
     pub(super) fn number(self) -> u8
         ensures value { result ≡ size_number self }
         ensures below { result < 4 }
@@ -46,7 +33,7 @@ impl Size {
 }
 
 // Which of a side's four sets of registers.
-#[derive(Clone, Copy)]
+#[derive(Clone, Copy, PartialEq, Eq, Debug)]
 pub enum SetNumber {
     Zero,
     One,
@@ -55,7 +42,7 @@ pub enum SetNumber {
 }
 
 impl SetNumber {
-    pub(super) fn from_number(number: u8) -> Option<SetNumber>
+    pub fn from_number(number: u8) -> Option<SetNumber>
         ensures value { result ≡ slice_get sets number }
         ensures only { IfSome result (λ set. set_number set ≡ number) }
     {
@@ -78,14 +65,14 @@ impl SetNumber {
 }
 
 // Which of a side's two stacks: 0 or 2 of the even side, 1 or 3 of the odd one.
-#[derive(Clone, Copy)]
+#[derive(Clone, Copy, PartialEq, Eq, Debug)]
 pub enum Half {
     Lower,
     Higher,
 }
 
 impl Half {
-    pub(super) fn from_number(number: u8) -> Option<Half>
+    pub fn from_number(number: u8) -> Option<Half>
         ensures value { result ≡ slice_get halves number }
         ensures only { IfSome result (λ half. half_number half ≡ number) }
     {
@@ -96,7 +83,7 @@ impl Half {
         }
     }
 
-    pub(super) fn number(self) -> u8
+    pub fn number(self) -> u8
         ensures value { result ≡ half_number self }
         ensures back { slice_get halves result ≡ Some self }
         ensures below { result < 2 }
@@ -106,14 +93,14 @@ impl Half {
 }
 
 // What is added to R: the set's N, or the top of the stack.
-#[derive(Clone, Copy)]
+#[derive(Clone, Copy, PartialEq, Eq, Debug)]
 pub enum Index {
     N,
     Top,
 }
 
 // Where a load or store goes, and whether R steps: R, R+i, R i+ and R+i+.
-#[derive(Clone, Copy)]
+#[derive(Clone, Copy, PartialEq, Eq, Debug)]
 pub enum Mode {
     Still,
     Plus(Index),
@@ -122,21 +109,23 @@ pub enum Mode {
 }
 
 impl Mode {
-    pub(super) fn from_number(number: u8) -> Option<Mode>
+    pub fn from_number(number: u8) -> Option<Mode>
         ensures value { result ≡ slice_get modes number }
         ensures only { IfSome result (λ mode. mode_number mode ≡ number) }
     {
-        let index = if number < 4 { Index::N } else { Index::Top };
         match number {
             0 => Some(Mode::Still),
-            1 | 4 => Some(Mode::Plus(index)),
-            2 | 5 => Some(Mode::Step(index)),
-            3 | 6 => Some(Mode::PlusStep(index)),
+            1 => Some(Mode::Plus(Index::N)),
+            2 => Some(Mode::Step(Index::N)),
+            3 => Some(Mode::PlusStep(Index::N)),
+            4 => Some(Mode::Plus(Index::Top)),
+            5 => Some(Mode::Step(Index::Top)),
+            6 => Some(Mode::PlusStep(Index::Top)),
             _ => None,
         }
     }
 
-    pub(super) fn number(self) -> u8
+    pub fn number(self) -> u8
         ensures value { result ≡ mode_number self }
         ensures back { slice_get modes result ≡ Some self }
         ensures below { result < 7 }
@@ -154,7 +143,7 @@ impl Mode {
 }
 
 // The registers of a set.
-#[derive(Clone, Copy)]
+#[derive(Clone, Copy, PartialEq, Eq, Debug)]
 pub enum Register {
     R,
     N,
@@ -163,7 +152,7 @@ pub enum Register {
 }
 
 impl Register {
-    pub(super) fn from_number(number: u8) -> Option<Register>
+    pub fn from_number(number: u8) -> Option<Register>
         ensures value { result ≡ slice_get registers number }
         ensures only { IfSome result (λ register. register_number register ≡ number) }
     {
@@ -176,7 +165,7 @@ impl Register {
         }
     }
 
-    pub(super) fn number(self) -> u8
+    pub fn number(self) -> u8
         ensures value { result ≡ register_number self }
         ensures back { slice_get registers result ≡ Some self }
         ensures below { result < 4 }

@@ -5,7 +5,7 @@ ghost use Rattle.moves.specs.Selectors.{access_selector, decoded_access, decoded
 use super::parts::{Half, Mode, Register, SetNumber, Size};
 
 // The set of registers and the stack that a move joins.
-#[derive(Clone, Copy)]
+#[derive(Clone, Copy, PartialEq, Eq, Debug)]
 pub struct Port {
     pub set: SetNumber,
     pub stack: Half,
@@ -13,7 +13,7 @@ pub struct Port {
 
 impl Port {
     // From the low half of a selector.
-    fn decode(low: u8) -> Option<Port>
+    pub fn decode(low: u8) -> Option<Port>
         ensures value { result ≡ decoded_port low }
         ensures only { IfSome result (λ port. encoded_port port ≡ low) }
     {
@@ -22,7 +22,7 @@ impl Port {
         Some(Port { set, stack })
     }
 
-    fn encode(self) -> u8
+    pub fn encode(self) -> u8
         ensures value { result ≡ encoded_port self }
         ensures back { decoded_port result ≡ Some self }
         ensures below { result < 8 }
@@ -32,7 +32,7 @@ impl Port {
 }
 
 // What a load or a store carries, and where.
-#[derive(Clone, Copy)]
+#[derive(Clone, Copy, PartialEq, Eq, Debug)]
 pub struct Transfer {
     pub size: Size,
     pub port: Port,
@@ -40,7 +40,7 @@ pub struct Transfer {
 }
 
 impl Transfer {
-    pub(super) fn decode(size: Size, selector: u8) -> Option<Transfer>
+    pub fn decode(size: Size, selector: u8) -> Option<Transfer>
         ensures value { result ≡ decoded_transfer size selector }
         ensures only { IfSome result (λ transfer. (transfer.size ≡ size) × (transfer_selector transfer ≡ selector)) }
     {
@@ -49,7 +49,7 @@ impl Transfer {
         Some(Transfer { size, port, mode })
     }
 
-    pub(super) fn selector(self) -> u8
+    pub fn selector(self) -> u8
         ensures value { result ≡ transfer_selector self }
         ensures back { decoded_transfer self.size result ≡ Some self }
     {
@@ -58,14 +58,14 @@ impl Transfer {
 }
 
 // The register that a set or a get names.
-#[derive(Clone, Copy)]
+#[derive(Clone, Copy, PartialEq, Eq, Debug)]
 pub struct Access {
     pub register: Register,
     pub port: Port,
 }
 
 impl Access {
-    pub(super) fn decode(selector: u8) -> Option<Access>
+    pub fn decode(selector: u8) -> Option<Access>
         ensures value { result ≡ decoded_access selector }
         ensures only { IfSome result (λ access. access_selector access ≡ selector) }
     {
@@ -74,7 +74,7 @@ impl Access {
         Some(Access { register, port })
     }
 
-    pub(super) fn selector(self) -> u8
+    pub fn selector(self) -> u8
         ensures value { result ≡ access_selector self }
         ensures back { decoded_access result ≡ Some self }
     {

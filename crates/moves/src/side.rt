@@ -2,10 +2,11 @@
 ghost use Rattle.std.specs.Prelude.{◌≡◌};
 ghost use Rattle.moves.specs.Sides.{stack_on};
 
+use super::moving::Move;
 use super::parts::Half;
-use places::StackNumber;
+use operations::places::StackNumber;
 
-#[derive(Clone, Copy)]
+#[derive(Clone, Copy, PartialEq, Eq, Debug)]
 pub enum Side {
     Even,
     Odd,
@@ -22,4 +23,11 @@ impl Side {
             (Side::Odd, Half::Higher) => StackNumber::Three,
         }
     }
+}
+
+// A move beside the side that makes it, as its text names the stack.
+#[derive(Clone, Copy, PartialEq, Eq, Debug)]
+pub struct SideMove {
+    pub side: Side,
+    pub made: Move,
 }

@@ -1,6 +1,6 @@
 -- Which operation a text names.
 use Rattle.std.specs.Prelude.{◌≡◌, ℕ, ◌<◌, Bool, true, false, List, Some, None, Option}
-use Rattle.listing.specs.Operations.{operation_text}
+use Rattle.operations.specs.Text.{operation_text}
 use Rattle.operations.specs.Operations.{decoded_operation}
 use Rattle.operations.specs.declared.operation.Operation.{Operation}
 

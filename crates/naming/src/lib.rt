@@ -3,14 +3,14 @@
 ghost use Rattle.naming.specs.Naming.{Named, NamedAt, NamedBy, Tells};
 ghost use Rattle.std.specs.Prelude.{IfOk};
 
-use listing::written::Written;
+
 use operations::operation::Operation;
 use std::alloc::{AllocError, Global};
 
 fn is_written(heap: Global, operation: Operation, text: &str) -> Result<bool, AllocError>
     ensures { IfOk result (Tells operation text.now) }
 {
-    let written = Written(operation).to_string(heap)?;
+    let written = operation.to_string(heap)?;
     Ok(written.as_str() == text)
 }
 

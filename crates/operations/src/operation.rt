@@ -1,17 +1,16 @@
 // A slot's operation.
-ghost use Rattle.std.specs.Prelude.{◌≡◌, ◌+◌, ◌<◌, ◌≤◌, [], ◌∷◌, IfSome, Some, None, OnSome, slice_index};
-ghost use Rattle.operands.specs.Operands.{decoded_operand};
-ghost use Rattle.operations.specs.Kinds.{binaries, multiplies};
-ghost use Rattle.operations.specs.Operations.{bare, combined, decoded_operation, encoded_operation, latched, placed, plain};
-ghost use Rattle.std.specs.Option.{option_map};
+ghost use Rattle.std.specs.Prelude.{◌≡◌, ◌+◌, [], ◌∷◌, IfSome, Some, slice_index};
+ghost use Rattle.operations.specs.Operations.{bare, combined, decoded_operation, encoded_operation, firsts, given, lasts, latched};
+ghost use Rattle.operations.specs.Kinds.{binary_number, multiply_number};
 ghost use Rattle.std.specs.List.{slice_get};
 
+use super::conditions::{condition_of, number_of};
 use super::kinds::{Binary, Fetch, Multiply, Scan, Shift, Special};
-use conditions::condition::Condition;
-use operands::{Operand, Source};
-use places::Place;
+use super::operands::{Operand, Source};
+use super::places::Place;
+use words::condition::Condition;
 
-#[derive(Clone, Copy)]
+#[derive(Clone, Copy, PartialEq, Eq, Debug)]
 pub enum Operation {
     Nop,
     Push(i8),
@@ -33,26 +32,13 @@ impl Operation {
         ensures value { result ≡ decoded_operation number argument }
         ensures only { IfSome result (λ operation. encoded_operation operation ≡ number ∷ argument ∷ []) }
     {
-        if number < 3 {
-            decode_plain(number, argument)
-        } else if number < 17 {
-            decode_placed(number, argument)
-        } else if argument == 0 {
-            decode_bare(number)
+        if number < 17 {
+            decode_first(number, argument)
+        } else if number < 33 {
+            decode_bare(Operation::Flag(condition_of(number - 17)?), argument)
         } else {
-            None
+            decode_last(number - 33, argument)
         }
-    }
-
-    // The same, written where an operation stands; a refusal leaves that as it was. What is written byte by byte
-    // and then read as a whole has to wait, so a bundle's parts are decoded in their places.
-    pub fn decode_from(&mut self, number: u8, argument: u8) -> Option<()>
-        ensures value { option_map (λ _. self.new) result ≡ decoded_operation number argument }
-        ensures only { OnSome result (encoded_operation self.new ≡ number ∷ argument ∷ []) }
-        ensures kept { result ≡ None → self.new ≡ self.old }
-    {
-        *self = Operation::decode(number, argument)?;
-        Some(())
     }
 
     // The operation byte and the argument byte.
@@ -68,7 +54,7 @@ impl Operation {
             Operation::Latch(multiply, operand) => [12 + multiply.number(), operand.encode()],
             Operation::Pick(source) => [15, source.encode()],
             Operation::Pin(place) => [16, place.number()],
-            Operation::Flag(condition) => [17 + condition.number(), 0],
+            Operation::Flag(condition) => [17 + number_of(condition), 0],
             Operation::Shift(shift) => [33 + shift.number(), 0],
             Operation::Scan(scan) => [41 + scan.number(), 0],
             Operation::Special(special) => [43 + special.number(), 0],
@@ -77,73 +63,78 @@ impl Operation {
     }
 }
 
-// The operations numbered 0 to 2.
-fn decode_plain(number: u8, argument: u8) -> Option<Operation>
-    requires { number < 3 }
-    ensures value { result ≡ plain number argument }
-    ensures only { IfSome result (λ operation. encoded_operation operation ≡ number ∷ argument ∷ []) }
+// An operation that uses no argument.
+fn decode_bare(operation: Operation, argument: u8) -> Option<Operation>
+    ensures { result ≡ bare operation argument }
 {
-    if number == 0 {
-        if argument == 0 {
-            Some(Operation::Nop)
-        } else {
-            None
-        }
-    } else if number == 1 {
-        Some(Operation::Push(argument.cast_signed()))
-    } else {
-        Some(Operation::Append(argument))
-    }
+    if argument == 0 { Some(operation) } else { None }
 }
 
-// The operations numbered 3 to 16, whose argument names an operand or a place.
-fn decode_placed(number: u8, argument: u8) -> Option<Operation>
-    requires { (3 ≤ number) × (number < 17) }
-    ensures value { result ≡ placed number argument }
-    ensures only { IfSome result (λ operation. encoded_operation operation ≡ number ∷ argument ∷ []) }
+fn decode_combined(binary: Binary, argument: u8) -> Option<Operation>
+    ensures value { result ≡ combined binary argument }
+    ensures only { IfSome result (λ operation. encoded_operation operation ≡ (3 + binary_number binary) ∷ argument ∷ []) }
 {
-    if number < 12 {
-        decode_combined(number - 3, argument)
-    } else if number < 15 {
-        decode_latched(number - 12, argument)
-    } else if number == 15 {
-        Some(Operation::Pick(Source::decode(argument)?))
-    } else {
-        Some(Operation::Pin(Place::from_number(argument)?))
-    }
-}
-
-fn decode_combined(number: u8, argument: u8) -> Option<Operation>
-    ensures value { result ≡ combined (slice_get binaries number) (decoded_operand argument) }
-    ensures only { IfSome result (λ operation. encoded_operation operation ≡ (3 + number) ∷ argument ∷ []) }
-{
-    let binary = Binary::from_number(number)?;
     Some(Operation::Combine(binary, Operand::decode(argument)?))
 }
 
-fn decode_latched(number: u8, argument: u8) -> Option<Operation>
-    ensures value { result ≡ latched (slice_get multiplies number) (decoded_operand argument) }
-    ensures only { IfSome result (λ operation. encoded_operation operation ≡ (12 + number) ∷ argument ∷ []) }
+fn decode_latched(multiply: Multiply, argument: u8) -> Option<Operation>
+    ensures value { result ≡ latched multiply argument }
+    ensures only { IfSome result (λ operation. encoded_operation operation ≡ (12 + multiply_number multiply) ∷ argument ∷ []) }
 {
-    let multiply = Multiply::from_number(number)?;
     Some(Operation::Latch(multiply, Operand::decode(argument)?))
 }
 
-// The operations numbered 17 to 50.
-fn decode_bare(number: u8) -> Option<Operation>
-    requires { 17 ≤ number }
-    ensures value { result ≡ bare number }
-    ensures only { IfSome result (λ operation. encoded_operation operation ≡ number ∷ 0 ∷ []) }
+// The operations numbered 0 to 16.
+fn decode_first(number: u8, argument: u8) -> Option<Operation>
+    ensures value { result ≡ given (slice_get firsts number) argument }
+    ensures only { IfSome result (λ operation. encoded_operation operation ≡ number ∷ argument ∷ []) }
 {
-    if number < 33 {
-        Some(Operation::Flag(Condition::from_number(number - 17)?))
-    } else if number < 41 {
-        Some(Operation::Shift(Shift::from_number(number - 33)?))
-    } else if number < 43 {
-        Some(Operation::Scan(Scan::from_number(number - 41)?))
-    } else if number < 47 {
-        Some(Operation::Special(Special::from_number(number - 43)?))
-    } else {
-        Some(Operation::Fetch(Fetch::from_number(number - 47)?))
+    match number {
+        0 => decode_bare(Operation::Nop, argument),
+        1 => Some(Operation::Push(argument.cast_signed())),
+        2 => Some(Operation::Append(argument)),
+        3 => decode_combined(Binary::Or, argument),
+        4 => decode_combined(Binary::And, argument),
+        5 => decode_combined(Binary::Xor, argument),
+        6 => decode_combined(Binary::Add, argument),
+        7 => decode_combined(Binary::Sub, argument),
+        8 => decode_combined(Binary::Subr, argument),
+        9 => decode_combined(Binary::Addc, argument),
+        10 => decode_combined(Binary::Subc, argument),
+        11 => decode_combined(Binary::Subcr, argument),
+        12 => decode_latched(Multiply::Pass, argument),
+        13 => decode_latched(Multiply::Mul, argument),
+        14 => decode_latched(Multiply::Umul, argument),
+        15 => Some(Operation::Pick(Source::decode(argument)?)),
+        16 => Some(Operation::Pin(Place::from_number(argument)?)),
+        _ => None,
+    }
+}
+
+// The operations numbered 33 to 50, counted from 33.
+fn decode_last(number: u8, argument: u8) -> Option<Operation>
+    ensures value { result ≡ given (slice_get lasts number) argument }
+    ensures only { IfSome result (λ operation. encoded_operation operation ≡ (33 + number) ∷ argument ∷ []) }
+{
+    match number {
+        0 => decode_bare(Operation::Shift(Shift::Asr), argument),
+        1 => decode_bare(Operation::Shift(Shift::Lsr), argument),
+        2 => decode_bare(Operation::Shift(Shift::Ror), argument),
+        3 => decode_bare(Operation::Shift(Shift::Rorc), argument),
+        4 => decode_bare(Operation::Shift(Shift::Asl), argument),
+        5 => decode_bare(Operation::Shift(Shift::Lsl), argument),
+        6 => decode_bare(Operation::Shift(Shift::Rol), argument),
+        7 => decode_bare(Operation::Shift(Shift::Rolc), argument),
+        8 => decode_bare(Operation::Scan(Scan::First), argument),
+        9 => decode_bare(Operation::Scan(Scan::Ones), argument),
+        10 => decode_bare(Operation::Special(Special::FetchIp), argument),
+        11 => decode_bare(Operation::Special(Special::StoreIp), argument),
+        12 => decode_bare(Operation::Special(Special::FetchCount), argument),
+        13 => decode_bare(Operation::Special(Special::StoreCount), argument),
+        14 => decode_bare(Operation::Fetch(Fetch::Plain), argument),
+        15 => decode_bare(Operation::Fetch(Fetch::Negated), argument),
+        16 => decode_bare(Operation::Fetch(Fetch::Added), argument),
+        17 => decode_bare(Operation::Fetch(Fetch::Subtracted), argument),
+        _ => None,
     }
 }

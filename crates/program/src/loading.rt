@@ -6,7 +6,7 @@ ghost use Rattle.program.specs.Loads.{Loads, Decodes};
 use super::program::Program;
 use super::refusals::{LoadError, LoadRefusal};
 use blocks::kinds::Kind;
-use bundles::bundle::{Bundle, IDLE};
+use bundles::bundle::Bundle;
 use images::reading::payloads;
 use std::alloc::Global;
 
@@ -30,10 +30,9 @@ fn decode_all(heap: Global, bytes: &[u8]) -> Result<Vec<Bundle>, LoadError>
 {
     let count = bytes.len() / BUNDLE;
     let mut bundles = Vec::with_capacity(heap, count)?;
-    let mut bundle = IDLE;
     for place in 0..count {
         let from = BUNDLE * place;
-        let Some(()) = bundle.decode_from(&bytes[from..from + BUNDLE]) else {
+        let Some(bundle) = Bundle::decode(&bytes[from..from + BUNDLE]) else {
             return Err(LoadError::Refused(LoadRefusal::Unlawful {
                 bundle: place as u32,
             }));

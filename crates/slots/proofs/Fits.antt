@@ -2,7 +2,7 @@
 use Rattle.std.proofs.Common.{◌≡◌, ℕ, ◌≤◌, Bool, true, false, cond, leb, List, length, Some, None, Option, refl, ap, ◌∙◌, leb-true}
 use Rattle.operations.specs.declared.operation.Operation.{Operation}
 use Rattle.operations.specs.declared.operation.Operation.TheVariants.{Nop}
-use Rattle.places.specs.declared.StackNumber.{StackNumber}
+use Rattle.operations.specs.declared.places.StackNumber.{StackNumber}
 use Rattle.slots.specs.Left.{left}
 use Rattle.drafts.specs.Shown.{Shown, faulty, shown}
 use Rattle.slots.specs.Slots.{asked, operated, worked}

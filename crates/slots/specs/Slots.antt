@@ -4,8 +4,8 @@ use Rattle.std.specs.Prelude.{ℕ, ◌*◌, ◌/◌, ◌^◌, Bool, true, false,
 use Rattle.std.specs.Int.{w32}
 use Rattle.std.proofs.Common.{of_z}
 use Rattle.alu.specs.Alu.{append, combine, fetched, flag_of, scanned, shifted}
-use Rattle.operands.specs.Operands.{source_operand}
-use Rattle.places.specs.Places.{place_number}
+use Rattle.operations.specs.Operands.{source_operand}
+use Rattle.operations.specs.Places.{place_number}
 use Rattle.operations.specs.declared.kinds.Binary.{Binary}
 use Rattle.operations.specs.declared.kinds.Fetch.{Fetch}
 use Rattle.operations.specs.declared.kinds.Fetch.TheVariants.{Plain, Negated, Added, Subtracted}
@@ -16,15 +16,15 @@ use Rattle.operations.specs.declared.kinds.Special.{Special}
 use Rattle.operations.specs.declared.kinds.Special.TheVariants.{FetchIp, StoreIp, FetchCount, StoreCount}
 use Rattle.operations.specs.declared.operation.Operation.{Operation}
 use Rattle.operations.specs.declared.operation.Operation.TheVariants as operation
-use Rattle.places.specs.declared.StackNumber.{StackNumber}
+use Rattle.operations.specs.declared.places.StackNumber.{StackNumber}
 use Rattle.effects.specs.Operands.{TopTwo, effect, top_two, top_two_of}
 use Rattle.drafts.specs.Shown.{Shown, faulty, flagged, plain, with_words}
 use Rattle.drafts.specs.declared.draft.SlotFault.TheVariants.{Lacking, Crowded}
 use Rattle.stacks.specs.Changes.{pinned}
 use Rattle.stacks.specs.Held.{Held}
-use Rattle.words.specs.Pairs.{number, pair_of}
-use Rattle.conditions.specs.declared.condition.Condition.{Condition}
-use Rattle.latch.specs.declared.fetches.Accumulated.{Accumulated}
+use Rattle.words.specs.Latch.{number, pair_of}
+use Rattle.words.specs.declared.condition.Condition.{Condition}
+use Rattle.words.specs.declared.fetches.Accumulated.{Accumulated}
 
 -- <#: n1 — n2
 abbrev pub appending : ℕ → Held → List ℕ → Option Shown

@@ -1,7 +1,7 @@
 ghost use Rattle.std.specs.Prelude.{◌≡◌};
 ghost use Rattle.slots.specs.Latches.{latch_of};
 
-use places::StackNumber;
+use operations::places::StackNumber;
 
 // The multipliers' latches: stacks 0 and 1 share the low one, stacks 2 and 3 the high one.
 #[derive(Clone, Copy)]

@@ -1,7 +1,7 @@
 //! The work of a slot: what an operation makes of its stack, as a draft that can be shown and settled.
 #![tactic(auto)]
 pub mod latches;
-mod moving;
+mod places;
 mod registers;
 mod tops;
 mod twos;

@@ -10,7 +10,7 @@ ghost use Rattle.stacks.specs.Words.{words_in};
 use super::tops::push;
 use alu::latches::fetched;
 use drafts::draft::Draft;
-use latch::fetches::Accumulated;
+use words::fetches::Accumulated;
 use operations::kinds::{Fetch, Special};
 use stacks::changes::{Change, Few};
 use stacks::stack::Stack;

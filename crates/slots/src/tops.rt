@@ -9,7 +9,7 @@ ghost use Rattle.stacks.specs.Held.{held};
 ghost use Rattle.stacks.specs.Words.{words_in};
 
 use alu::tops::{append, flag_of, scanned, shifted};
-use conditions::condition::Condition;
+use words::condition::Condition;
 use drafts::draft::Draft;
 use effects::twos::Under;
 use operations::kinds::{Scan, Shift};

@@ -11,7 +11,7 @@ use super::tops::put_flagged;
 use alu::twos::combine;
 use drafts::draft::{Draft, LatchWrite};
 use effects::twos::operand_two;
-use operands::Operand;
+use operations::operands::Operand;
 use operations::kinds::{Binary, Multiply};
 use stacks::changes::Change;
 use stacks::stack::Stack;

@@ -1,7 +1,7 @@
 // The work of a slot.
 ghost use Rattle.std.specs.Prelude.{◌≡◌, ◌≤◌, length, if◌then◌else◌};
 ghost use Rattle.operations.specs.declared.operation.Operation.TheVariants.{Nop};
-ghost use Rattle.places.specs.Places.{stack_number};
+ghost use Rattle.operations.specs.Places.{stack_number};
 ghost use Rattle.effects.specs.Operands.{words_of};
 ghost use Rattle.slots.specs.Left.{left};
 ghost use Rattle.drafts.specs.Shown.{faulty, shown};
@@ -10,13 +10,13 @@ ghost use Rattle.slots.specs.Latches.{latch_of};
 ghost use Rattle.stacks.specs.Held.{held, held_at};
 
 use super::latches::Latches;
-use super::moving::{pick, pin};
+use super::places::{pick, pin};
 use super::registers::{access, fetch_latch};
 use super::tops::{append_byte, flag, keep, push, scan_top, shift_top};
 use super::twos::{combine_two, latch_two};
 use drafts::draft::{Draft, SlotFault};
 use operations::operation::Operation;
-use places::StackNumber;
+use operations::places::StackNumber;
 use stacks::changes::{Change, Few};
 use stacks::stack::Stack;
 

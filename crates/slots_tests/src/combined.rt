@@ -1,8 +1,8 @@
 use crate::rows::{Row, leaves, makes};
-use operands::{Constant, Operand};
+use operations::operands::{Constant, Operand};
 use operations::kinds::Binary;
 use operations::operation::Operation;
-use places::{Near, Place, StackNumber};
+use operations::places::{Near, Place, StackNumber};
 use std::process::Abort;
 
 fn combine<'a>(

@@ -1,9 +1,9 @@
 use crate::rows::{beside, drafted, faults, filled, stack_of, works};
-use conditions::condition::Condition;
-use operands::{Constant, Operand, Source};
+use words::condition::Condition;
+use operations::operands::{Constant, Operand, Source};
 use operations::kinds::{Binary, Fetch, Multiply, Scan, Shift, Special};
 use operations::operation::Operation;
-use places::{Near, Place, StackNumber};
+use operations::places::{Near, Place, StackNumber};
 use std::test::Fail;
 
 // Only the depth after the operation counts.

@@ -1,10 +1,10 @@
 use crate::rows::{LOW, Row, beside, drafted, leaves, makes, stack_of};
 use alu::latches::product;
 use drafts::draft::Draft;
-use operands::Operand;
+use operations::operands::Operand;
 use operations::kinds::{Fetch, Multiply};
 use operations::operation::Operation;
-use places::{Near, StackNumber};
+use operations::places::{Near, StackNumber};
 use slots::latches::Latches;
 use slots::work::work;
 use std::test::Fail;

@@ -1,7 +1,7 @@
 use crate::rows::makes;
-use operands::Source;
+use operations::operands::Source;
 use operations::operation::Operation;
-use places::{Near, Place, StackNumber};
+use operations::places::{Near, Place, StackNumber};
 
 #[test]
 fn picks(rt: HostRuntime) {

@@ -1,7 +1,7 @@
 // A slot worked on stack 0, shown and settled, beside what is expected. Words are written with the top last.
 use drafts::draft::Draft;
 use operations::operation::Operation;
-use places::StackNumber;
+use operations::places::StackNumber;
 use slots::latches::Latches;
 use slots::work::work;
 use stacks::changes::{Change, Few};

@@ -1,5 +1,5 @@
 use crate::rows::{NEXT, Row, beside, drafted, leaves, makes, stack_of};
-use conditions::condition::Condition;
+use words::condition::Condition;
 use operations::kinds::{Scan, Shift, Special};
 use operations::operation::Operation;
 

@@ -25,8 +25,6 @@ pub(super) enum Command<'a> {
         address: usize,
         count: usize,
     },
-    // an operation to be tried; its words are read by the command itself
-    Slot,
     Help,
 }
 
@@ -36,9 +34,6 @@ pub(super) enum Misuse {
     UnknownVerb,
     UnknownKind,
     NotANumber,
-    UnknownOperation,
-    NotAWord,
-    TooManyWords,
     Words(Verb),
 }
 
@@ -66,7 +61,6 @@ pub(super) fn parse<'a>(words: &[&'a str]) -> Result<Command<'a>, Misuse> {
         (Verb::List, [image]) => Ok(Command::List { image }),
         (Verb::Read, [image, address]) => reading(image, address, "1"),
         (Verb::Read, [image, address, count]) => reading(image, address, count),
-        (Verb::Slot, [_, ..]) => Ok(Command::Slot),
         (Verb::Help, []) => Ok(Command::Help),
         (verb, _) => Err(Misuse::Words(verb)),
     }
@@ -93,15 +87,6 @@ impl fmt::Display for Misuse {
             ),
             Misuse::UnknownKind => write!(f, "a block's kind is written `code` or `table`"),
             Misuse::NotANumber => write!(f, "an address and a count are decimal numbers"),
-            Misuse::UnknownOperation => write!(
-                f,
-                "there is no such operation; write it in quotes with its argument, as \"sub s1\""
-            ),
-            Misuse::NotAWord => write!(
-                f,
-                "a word is a decimal number, a negative one, or $ and hexadecimal digits, of 32 bits (a latch: of 64)"
-            ),
-            Misuse::TooManyWords => write!(f, "there are four stacks of at most 64 words"),
             Misuse::Words(verb) => write!(f, "the command is written so: vestruga {verb}"),
         }
     }

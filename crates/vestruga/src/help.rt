@@ -9,10 +9,6 @@ vestruga COMMAND, or a script of commands on standard input, one a line, # start
   show IMAGE [--payload]     prints every block: number, kind, edition, check word, sound or refused
   list IMAGE                 prints a program, each bundle in words after its address
   read IMAGE ADDRESS [COUNT] prints bytes of a table by address, each with its mark
-  slot \"OPERATION ARGUMENT\" WORD..
-                             tries an operation on a stack of these words, the top last, and prints what
-                             its slot leaves; words after a / are those of stack 1, then 2, then 3;
-                             --carry --overflow --skip set flags, --count N --latch N --next ADDRESS the rest
   help                       prints this page
 
 A refused or failed command leaves its output file as it was.";

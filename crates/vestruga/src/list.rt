@@ -1,7 +1,6 @@
 // `list`: the bundles of a program in words.
 use super::files;
 use super::troubles::Trouble;
-use listing::written::Written;
 use program::program::Program;
 
 pub(super) fn run(rt: &HostRuntime, path: &str) -> Result<(), Trouble> {
@@ -9,7 +8,7 @@ pub(super) fn run(rt: &HostRuntime, path: &str) -> Result<(), Trouble> {
     let program = Program::load(rt.alloc(), &image)?;
     let mut address = 0u32;
     for bundle in program.bundles() {
-        println!(rt; "{address:6}  {}", Written(*bundle))?;
+        println!(rt; "{address:6}  {bundle}")?;
         address = address.wrapping_add(8);
     }
     let end = program.end();

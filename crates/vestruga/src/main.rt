@@ -9,8 +9,6 @@ mod list;
 mod read;
 mod seal;
 mod show;
-mod slot;
-mod trial;
 mod troubles;
 
 use self::command::{Command, parse};
@@ -56,20 +54,14 @@ fn script(rt: &HostRuntime) -> anyhow::Result<()> {
     Ok(())
 }
 
-// The words of a line, up to its comment; what stands in quotes is one word.
+// The words of a line, up to its comment.
 fn split(heap: Global, line: &str) -> anyhow::Result<Vec<&str>> {
     let mut words = Vec::new(heap);
-    for (piece, text) in line.split('"').enumerate() {
-        if piece % 2 == 1 {
-            words.push(text)?;
-            continue;
+    for word in line.split_whitespace() {
+        if word.starts_with('#') {
+            break;
         }
-        for word in text.split_whitespace() {
-            if word.starts_with('#') {
-                return Ok(words);
-            }
-            words.push(word)?;
-        }
+        words.push(word)?;
     }
     Ok(words)
 }
@@ -85,7 +77,6 @@ fn run(rt: &HostRuntime, words: &[&str]) -> Result<(), Trouble> {
             address,
             count,
         } => read::run(rt, image, address, count),
-        Command::Slot => slot::run(rt, words),
         Command::Help => help::run(rt),
     }
 }

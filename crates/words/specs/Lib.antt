@@ -1,3 +1,7 @@
 pub mod Words
-pub mod Pairs
-pub mod Outcomes
+pub mod Sums
+pub mod Conditions
+pub mod Comparisons
+pub mod Shifts
+pub mod Bits
+pub mod Latch

@@ -1,6 +1,5 @@
 -- How a word is read. A word is a number u below 2 ^ 32; read as signed, it is the number n.
-use Rattle.std.specs.Prelude.{ℕ, ◌-◌, ◌^◌, Bool, true, false, not, cond, ◌||◌, ℤ, pos, negsuc}
-use Rattle.std.specs.Int.Signed.{lt_z, le_z}
+use Rattle.std.specs.Prelude.{ℕ, ◌-◌, ◌^◌, Bool, true, false, cond, not, ◌||◌, ℤ, pos, negsuc, int_le, int_lt}
 use Rattle.std.proofs.Common.{to_z}
 use Rattle.std.specs.Int.{w32}
 
@@ -10,7 +9,7 @@ signed u = to_z w32 u
 
 -- not −2^31 ≤ z < 2^31
 abbrev pub outside : ℤ → Bool
-outside z = lt_z z (negsuc (2 ^ 31 - 1)) || le_z (pos (2 ^ 31)) z
+outside z = int_lt z (negsuc (2 ^ 31 - 1)) || int_le (pos (2 ^ 31)) z
 
 -- a flag as a number
 abbrev pub bit : Bool → ℕ

@@ -1,4 +1,11 @@
-//! Words of 32 bits: how they are read, two of them as a pair, and a word with the flags that an operation set.
+//! Words of 32 bits: what the operations of a slot compute of them.
 #![tactic(auto)]
+pub mod bits;
+pub mod condition;
+pub mod fetches;
 pub mod flagged;
 pub mod pair;
+pub mod products;
+pub mod shifts;
+pub mod status;
+pub mod sums;

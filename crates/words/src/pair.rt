@@ -1,6 +1,6 @@
 // Two words as one number of 64 bits; on a stack the high word lies above the low one.
 ghost use Rattle.std.specs.Prelude.{◌≡◌};
-ghost use Rattle.words.specs.Pairs.{number, pair_of};
+ghost use Rattle.words.specs.Latch.{number, pair_of};
 
 #[derive(Clone, Copy, PartialEq, Eq, Debug)]
 pub struct Pair {

@@ -1,12 +1,12 @@
 //! Examples of every word operation, each worked by hand.
 #![tactic(auto)]
 #[cfg(test)]
-mod bit_cases;
+mod bits;
 #[cfg(test)]
-mod condition_cases;
+mod conditions;
 #[cfg(test)]
-mod latch_cases;
+mod latch;
 #[cfg(test)]
-mod shift_cases;
+mod shifts;
 #[cfg(test)]
-mod sum_cases;
+mod sums;

@@ -21,17 +21,17 @@ impl Offset {
         self.bundles
     }
 
-    pub(crate) fn decode(high: u8, low: u8) -> Option<Offset>
+    pub fn decode(high: u8, low: u8) -> Option<Offset>
         ensures value { result ≡ decoded_offset high low }
         ensures only { IfSome result (λ offset. encoded_offset offset ≡ high ∷ low ∷ []) }
     {
         Offset::new(u16::from_be_bytes([high, low]).cast_signed())
     }
 
-    pub(crate) fn encode(self) -> [u8; 2]
+    pub fn encode(self) -> [u8; 2]
         ensures value { result ≡ encoded_offset self }
         ensures back { decoded_offset (slice_index result 0) (slice_index result 1) ≡ Some self }
     {
-        i16::cast_unsigned(self.bundles).to_be_bytes()
+        self.bundles.cast_unsigned().to_be_bytes()
     }
 }

@@ -4,7 +4,7 @@ ghost use Rattle.branches.specs.Stacks.{decoded_stacks, encoded_stacks, names, s
 
 use super::Stacks;
 use crate::checks::write_bit;
-use places::StackNumber;
+use operations::places::StackNumber;
 
 impl Stacks {
     pub fn new(zero: bool, one: bool, two: bool, three: bool) -> Option<Stacks>
@@ -33,7 +33,7 @@ impl Stacks {
         }
     }
 
-    pub(crate) fn decode(bits: u8) -> Option<Stacks>
+    pub fn decode(bits: u8) -> Option<Stacks>
         ensures value { result ≡ decoded_stacks bits }
         ensures only { IfSome result (λ stacks. encoded_stacks stacks ≡ bits) }
     {
@@ -49,7 +49,7 @@ impl Stacks {
         }
     }
 
-    pub(crate) fn encode(self) -> u8
+    pub fn encode(self) -> u8
         ensures value { result ≡ encoded_stacks self }
         ensures back { decoded_stacks result ≡ Some self }
         ensures some { 0 < result }

@@ -32,6 +32,6 @@ impl Target {
         ensures value { result ≡ encoded_target self }
         ensures back { decoded_target (slice_index result 0) (slice_index result 1) (slice_index result 2) (slice_index result 3) ≡ Some self }
     {
-        u32::to_be_bytes(self.address)
+        self.address.to_be_bytes()
     }
 }

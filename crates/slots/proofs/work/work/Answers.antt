@@ -1,5 +1,5 @@
 use Rattle.std.proofs.Common.{◌≡◌, ◌<◌, length, get_or, sym, ap, ◌∙◌, rules}
-use Rattle.places.specs.Places.{stack_number}
+use Rattle.operations.specs.Places.{stack_number}
 use Rattle.effects.specs.Operands.{words_of}
 use Rattle.slots.specs.Latches.{latch_of}
 use Rattle.stacks.specs.Held.{held, held_at}

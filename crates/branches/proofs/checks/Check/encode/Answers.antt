@@ -5,5 +5,5 @@ pub returns : goal.returns
 returns c =
     record {
       value = cc;
-      back = check_back c.number.result c.write_bit.result c.number.ensures.below c.args.self c.number.ensures.back c.write_bit.ensures.back;
+      back = check_back c.number_of.result c.write_bit.result c.number_of.ensures.below c.args.self c.number_of.ensures.back c.write_bit.ensures.back;
     }

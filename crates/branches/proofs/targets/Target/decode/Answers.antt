@@ -1,7 +1,7 @@
 use Rattle.std.proofs.Common.{◌≡◌, [], ◌∷◌, IfSome, Option, sym, ap, ◌∙◌, subst}
 use Rattle.branches.specs.Targets.{encoded_target, target_of}
 use Rattle.branches.specs.declared.targets.Target.{Target}
-use Rattle.branches.proofs.Places.{target-only}
+use Rattle.branches.proofs.Places.{target_only}
 use Rattle.branches.proofs.targets.Target.decode.Goals as goal
 
 pub returns : goal.returns
@@ -12,5 +12,5 @@ returns c =
     record {
       value = value;
       only = subst (λ (r : Option Target). IfSome r (λ target. encoded_target target ≡ a.first ∷ a.second ∷ a.third ∷ a.fourth ∷ [])) (sym value)
-          (target-only a.first a.second a.third a.fourth fit.first.fits fit.second.fits fit.third.fits fit.fourth.fits);
+          (target_only a.first a.second a.third a.fourth fit.first.fits fit.second.fits fit.third.fits fit.fourth.fits);
     }

@@ -21,7 +21,7 @@ pub returns-in-Flag : goal.returns-in-Flag
 returns-in-Flag c =
     record {
       value = cc (ap encoded_operation c.in-Flag.is);
-      back = ap (λ k. decoded_operation (17 + k) 0) c.number-in-Flag.ensures.value ∙ flag_back c.in-Flag.condition ∙ ap Some (sym c.in-Flag.is);
+      back = flag_back c.in-Flag.condition c.number_of.result c.number_of.ensures.below c.number_of.ensures.back ∙ ap Some (sym c.in-Flag.is);
     }
 
 pub returns-in-Shift : goal.returns-in-Shift

@@ -1,7 +1,0 @@
-use Rattle.std.proofs.Common.{refl}
-use lib.Count.{ones, ones_step}
-use Rattle.bits.proofs.popc.Goals as goal
-
-pub returns : goal.returns
-unfolding ones
-returns c = record { value = refl; counts = (ones_step c.args.u, refl) }

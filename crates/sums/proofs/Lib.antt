@@ -1,2 +1,0 @@
-pub mod Exactness
-pub mod Comparing

@@ -1,0 +1,4 @@
+pub mod Exactness
+pub mod Comparing
+pub mod FirstOnes
+pub mod Rotations

@@ -1,0 +1,21 @@
+use Rattle.std.proofs.Common.{◌≡◌, ◌+◌, ◌%◌, ◌^◌, pos, ◌+ℤ◌, sym, ap, ◌∙◌, arith, w64, to_z, of_z}
+use Rattle.std.proofs.lemmas.Int.{ints}
+use Rattle.words.specs.Sums.{addc}
+use Rattle.words.specs.Words.{bit, outside, signed}
+use Rattle.words.proofs.Exactness.{addc_carries, addc_exact}
+use Rattle.words.proofs.sums.addc.Goals as goal
+
+pub returns : goal.returns
+returns c =
+    let n1 = c.args.n1 in
+    let n2 = c.args.n2 in
+    let w : ((n1 + n2) % 2 ^ 32 + c.one_if-more.result) % 2 ^ 32 ≡ (addc n1 n2 c.args.c).word = omega arith in
+    let z : to_z w64 (of_z w64 c.sum.result) ≡ signed n1 +ℤ signed n2 +ℤ pos (bit c.args.c) = omega (arith, ints) in
+    let o : c.is_outside.result ≡ (addc n1 n2 c.args.c).overflow = c.is_outside.ensures ∙ ap outside z in
+    let k = addc_carries n1 n2 c.args.c (omega arith) (omega arith) in
+    let x = addc_exact n1 n2 c.args.c (omega arith) (omega arith) in
+    record {
+      value = cc;
+      carries = cc;
+      exact = ((λ h. ap signed w ∙ x.0 (sym o ∙ h)), (λ h. o ∙ x.1 (sym (ap signed w) ∙ h)));
+    }

@@ -1,0 +1,65 @@
+-- When a condition holds. It looks at the number n on top and at the flags.
+use Rattle.std.specs.Prelude.{◌≡◌, ℕ, ◌-◌, ◌^◌, Bool, true, false, cond, not, ◌&&◌, ◌||◌, List, [], ◌∷◌, map, take, drop, pos, ◌==◌, int_lt}
+use Rattle.words.specs.Words.{differ, signed}
+use Rattle.words.specs.declared.condition.Condition.{Condition}
+use Rattle.words.specs.declared.condition.Condition.TheVariants.{True, Zero, Negative, Overflow, Below, Above, Less, Greater, False, NotZero, NotNegative, NoOverflow, NotBelow, NotAbove, NotLess, NotGreater}
+use Rattle.words.specs.declared.pair.Pair.{Pair}
+use Rattle.words.specs.declared.status.Status.{Status}
+
+-- a word on top, with c and o
+abbrev pub of_word : ℕ → Bool → Bool → Status
+of_word u c o = record { zero = (u == 0); negative = int_lt (signed u) (pos 0); carry = c; overflow = o }
+
+-- a pair on top, its high word uppermost: it is 0 only if both words are
+abbrev pub of_pair : Pair → Bool → Bool → Status
+of_pair p c o = record { zero = p.low == 0 && (p.high == 0); negative = int_lt (signed p.high) (pos 0); carry = c; overflow = o }
+
+-- which conditions hold: t, 0=, 0<, ov, u<, u>, <, >, and f, 0<>, 0>=, no, u>=, u<=, >=, <=
+abbrev pub holds : Condition → Status → Bool
+holds True s = true
+holds Zero s = s.zero
+holds Negative s = s.negative
+holds Overflow s = s.overflow
+holds Below s = not s.carry
+holds Above s = s.carry && not s.zero
+holds Less s = differ s.negative s.overflow
+holds Greater s = not s.zero && not (differ s.negative s.overflow)
+holds False s = false
+holds NotZero s = not s.zero
+holds NotNegative s = not s.negative
+holds NoOverflow s = not s.overflow
+holds NotBelow s = s.carry
+holds NotAbove s = not s.carry || s.zero
+holds NotLess s = not (differ s.negative s.overflow)
+holds NotGreater s = s.zero || differ s.negative s.overflow
+
+-- the conditions in the order of their numbers, 0 to 15
+abbrev pub numbered : List Condition
+numbered = True ∷ Zero ∷ Negative ∷ Overflow ∷ Below ∷ Above ∷ Less ∷ Greater ∷ False ∷ NotZero ∷ NotNegative ∷ NoOverflow ∷ NotBelow ∷ NotAbove ∷ NotLess ∷ NotGreater ∷ []
+
+-- the condition whose number is 8 more or 8 less
+abbrev pub opposite : Condition → Condition
+opposite True = False
+opposite Zero = NotZero
+opposite Negative = NotNegative
+opposite Overflow = NoOverflow
+opposite Below = NotBelow
+opposite Above = NotAbove
+opposite Less = NotLess
+opposite Greater = NotGreater
+opposite False = True
+opposite NotZero = Zero
+opposite NotNegative = Negative
+opposite NoOverflow = Overflow
+opposite NotBelow = Below
+opposite NotAbove = Above
+opposite NotLess = Less
+opposite NotGreater = Greater
+
+-- the condition numbered k + 8 is the opposite of the condition numbered k
+abbrev pub EightApart : Type 0
+EightApart = drop 8 numbered ≡ map opposite (take 8 numbered)
+
+-- a flag as a word: all bits set, or none
+abbrev pub flag_word : Bool → ℕ
+flag_word b = cond b (2 ^ 32 - 1) 0
