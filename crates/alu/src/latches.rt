@@ -2,9 +2,9 @@
 ghost use Rattle.std.specs.Prelude.{◌≡◌};
 ghost use Rattle.alu.specs.Alu.{fetched, product};
 
+use operations::kinds::{Fetch, Multiply};
 use words::fetches::Accumulated;
 use words::{fetches, products};
-use operations::kinds::{Fetch, Multiply};
 
 // The number that the latch then has: n1 is the word below the top, n2 the top.
 pub fn product(multiply: Multiply, n1: u32, n2: u32) -> u64

@@ -2,11 +2,11 @@
 ghost use Rattle.std.specs.Prelude.{◌≡◌};
 ghost use Rattle.alu.specs.Alu.{append, flag_of, scanned, shifted};
 
+use operations::kinds::{Scan, Shift};
 use words::condition::Condition;
+use words::flagged::Flagged;
 use words::status::{Status, flag_word};
 use words::{bits, shifts, sums};
-use operations::kinds::{Scan, Shift};
-use words::flagged::Flagged;
 
 // The top shifted by a byte, with another byte below it.
 pub fn append(u: u32, byte: u8) -> u32

@@ -2,9 +2,9 @@
 ghost use Rattle.std.specs.Prelude.{◌≡◌};
 ghost use Rattle.alu.specs.Alu.{combine};
 
-use words::{bits, shifts, sums};
 use operations::kinds::Binary;
 use words::flagged::Flagged;
+use words::{bits, shifts, sums};
 
 // The word, and the flags after the operation: those that it does not name are the ones passed.
 pub fn combine(binary: Binary, n1: u32, n2: u32, carry: bool, overflow: bool) -> Flagged

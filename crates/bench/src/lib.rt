@@ -1,5 +1,6 @@
 // What the benchmark links: a few calls of the proved crates, for Rust to time.
 #![tactic(auto)]
+
 ghost use Rattle.std.specs.Prelude.{◌≡◌, ◌≤◌};
 ghost use Rattle.blocks.specs.Check.{check_word};
 

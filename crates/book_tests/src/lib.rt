@@ -1,5 +1,6 @@
 // Books at their edges, with damaged blocks, and behind a join.
 #![tactic(auto)]
+
 #[cfg(test)]
 mod damage;
 #[cfg(test)]

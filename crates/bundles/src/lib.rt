@@ -1,5 +1,6 @@
 //! Bundles: sixteen bytes, typed.
 #![tactic(auto)]
+
 pub mod bundle;
 pub mod ending;
 pub mod tails;

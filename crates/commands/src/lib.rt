@@ -1,4 +1,5 @@
 // The words that commands of the program are made of.
 #![tactic(auto)]
+
 pub mod kinds;
 pub mod verbs;

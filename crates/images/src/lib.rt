@@ -1,5 +1,6 @@
 // Images: code or tables as blocks one after the other.
 #![tactic(auto)]
+
 pub mod checking;
 pub mod reading;
 pub mod refusals;

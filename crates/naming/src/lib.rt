@@ -1,8 +1,8 @@
 //! Operations by what people write for them.
 #![tactic(auto)]
+
 ghost use Rattle.naming.specs.Naming.{Named, NamedAt, NamedBy, Tells};
 ghost use Rattle.std.specs.Prelude.{IfOk};
-
 
 use operations::operation::Operation;
 use std::alloc::{AllocError, Global};

@@ -1,4 +1,5 @@
 // Examples of loading, with images made by hand.
 #![tactic(auto)]
+
 #[cfg(test)]
 mod loads;

@@ -1,5 +1,6 @@
 // Questions that are asked in turn: the first one that gets a no is the answer.
 #![tactic(auto)]
+
 ghost use Rattle.std.specs.Prelude.{◌≡◌};
 ghost use Rattle.questions.specs.Questions.{answered, first_no};
 

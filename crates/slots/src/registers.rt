@@ -10,10 +10,10 @@ ghost use Rattle.stacks.specs.Words.{words_in};
 use super::tops::push;
 use alu::latches::fetched;
 use drafts::draft::Draft;
-use words::fetches::Accumulated;
 use operations::kinds::{Fetch, Special};
 use stacks::changes::{Change, Few};
 use stacks::stack::Stack;
+use words::fetches::Accumulated;
 use words::pair::Pair;
 
 fn store_ip(own: &Stack, draft: &mut Draft) -> Option<()>

@@ -9,12 +9,12 @@ ghost use Rattle.stacks.specs.Held.{held};
 ghost use Rattle.stacks.specs.Words.{words_in};
 
 use alu::tops::{append, flag_of, scanned, shifted};
-use words::condition::Condition;
 use drafts::draft::Draft;
 use effects::twos::Under;
 use operations::kinds::{Scan, Shift};
 use stacks::changes::{Change, Few};
 use stacks::stack::Stack;
+use words::condition::Condition;
 use words::flagged::Flagged;
 
 // A change to the words and nothing else.

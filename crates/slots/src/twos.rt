@@ -11,8 +11,8 @@ use super::tops::put_flagged;
 use alu::twos::combine;
 use drafts::draft::{Draft, LatchWrite};
 use effects::twos::operand_two;
-use operations::operands::Operand;
 use operations::kinds::{Binary, Multiply};
+use operations::operands::Operand;
 use stacks::changes::Change;
 use stacks::stack::Stack;
 

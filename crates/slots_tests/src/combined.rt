@@ -1,6 +1,6 @@
 use crate::rows::{Row, leaves, makes};
-use operations::operands::{Constant, Operand};
 use operations::kinds::Binary;
+use operations::operands::{Constant, Operand};
 use operations::operation::Operation;
 use operations::places::{Near, Place, StackNumber};
 use std::process::Abort;

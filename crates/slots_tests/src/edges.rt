@@ -1,10 +1,10 @@
 use crate::rows::{beside, drafted, faults, filled, stack_of, works};
-use words::condition::Condition;
-use operations::operands::{Constant, Operand, Source};
 use operations::kinds::{Binary, Fetch, Multiply, Scan, Shift, Special};
+use operations::operands::{Constant, Operand, Source};
 use operations::operation::Operation;
 use operations::places::{Near, Place, StackNumber};
 use std::test::Fail;
+use words::condition::Condition;
 
 // Only the depth after the operation counts.
 #[test]

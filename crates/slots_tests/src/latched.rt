@@ -1,8 +1,8 @@
 use crate::rows::{LOW, Row, beside, drafted, leaves, makes, stack_of};
 use alu::latches::product;
 use drafts::draft::Draft;
-use operations::operands::Operand;
 use operations::kinds::{Fetch, Multiply};
+use operations::operands::Operand;
 use operations::operation::Operation;
 use operations::places::{Near, StackNumber};
 use slots::latches::Latches;

@@ -1,5 +1,6 @@
 //! Every operation of a slot on examples worked by hand, and the edges of a stack.
 #![tactic(auto)]
+
 #[cfg(test)]
 mod combined;
 #[cfg(test)]

@@ -1,7 +1,7 @@
 use crate::rows::{NEXT, Row, beside, drafted, leaves, makes, stack_of};
-use words::condition::Condition;
 use operations::kinds::{Scan, Shift, Special};
 use operations::operation::Operation;
+use words::condition::Condition;
 
 #[test]
 fn pushes_and_appends(rt: HostRuntime) {

@@ -1,5 +1,6 @@
 // The command-line program: one command from its arguments, or a script of them from standard input.
 #![tactic(auto)]
+
 mod check;
 mod command;
 mod counts;

@@ -1,5 +1,6 @@
 //! Words of 32 bits: what the operations of a slot compute of them.
 #![tactic(auto)]
+
 pub mod bits;
 pub mod condition;
 pub mod fetches;

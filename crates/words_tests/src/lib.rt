@@ -1,5 +1,6 @@
 //! Examples of every word operation, each worked by hand.
 #![tactic(auto)]
+
 #[cfg(test)]
 mod bits;
 #[cfg(test)]
