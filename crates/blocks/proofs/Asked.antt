@@ -1,5 +1,5 @@
 -- What the code asks of a block is what opening asks, and what a block that passes is known by.
-use Rattle.std.proofs.Common.{◌≡◌, ℕ, ◌-◌, Bool, true, eqb, List, [], ◌∷◌, length, get_or, take, drop, Some, None, sym, ap, ◌∙◌}
+use Rattle.std.proofs.Common.{◌≡◌, ℕ, ◌-◌, Bool, true, eqb, List, [], ◌∷◌, length, get_or, take, drop, Some, None}
 use Rattle.std.specs.List.{between}
 use Rattle.std.proofs.lemmas.Bool.{eq-eqb, ne_eqb, eqb-true}
 use Rattle.questions.specs.Questions.{first_no}

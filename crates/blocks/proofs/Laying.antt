@@ -1,10 +1,10 @@
 -- How a block comes together, and apart again.
-use Rattle.std.proofs.Common.{◌≡◌, ℕ, ◌+◌, ◌<◌, ◌≤◌, List, [], ◌∷◌, ◌++◌, length, take, drop, sym, refl, ap, ◌∙◌, arith, length-append, length-drop, length-take, rules}
+use Rattle.std.proofs.Common.{◌≡◌, ℕ, ◌≤◌, List, ◌++◌, length, take, drop, sym, refl, ap, ◌∙◌, arith, length-append, length-drop, length-take}
 use borrow.Rule.Slice.PartMut.{put_mid}
 use Rattle.blocks.specs.Check.{check_word}
 use Rattle.blocks.specs.Layout.{four_bytes}
-use Rattle.std.proofs.lemmas.List.{places, take_at, take_all}
-use Rattle.std.proofs.lemmas.Slice.{take-put_mid, overwrites}
+use Rattle.std.proofs.lemmas.List.{take_at, take_all}
+use Rattle.std.proofs.lemmas.Slice.{take-put_mid}
 
 module _ (h p w t : List ℕ) (lh : length h ≡ 12) (lp : length p ≡ 496) (lw : length w ≡ 4) (lt : length t ≡ 512) where
   pub front : take 508 (put_mid 12 496 (h ++ drop 12 t) p) ≡ h ++ p

@@ -1,10 +1,10 @@
 -- Every block that opens is the sealing of what it carries.
-use Rattle.std.proofs.Common.{◌≡◌, ℕ, ◌<◌, true, eqb, List, [], ◌∷◌, ◌++◌, length, get_or, take, drop, replicate, sym, refl, ap, ◌∙◌, append_assoc, arith, length-drop, take-append-drop, length-take}
+use Rattle.std.proofs.Common.{◌≡◌, ℕ, ◌<◌, true, eqb, List, [], ◌∷◌, ◌++◌, length, get_or, take, drop, replicate, refl, ap, ◌∙◌, arith, length-drop, take-append-drop, length-take}
 use Rattle.std.proofs.lemmas.Slice.Eq.{text_from_reads}
 use Rattle.std.proofs.lemmas.List.{drop-drop, get_or-take, get_or-drop, take_at}
 use Rattle.std.proofs.lemmas.Bool.{eqb-true, and_parts}
 use Rattle.blocks.specs.Check.{check_word}
-use Rattle.blocks.specs.Layout.{two_bytes, four_bytes, header, covered, sealed, all_zero, payload_of}
+use Rattle.blocks.specs.Layout.{two_bytes, four_bytes, covered, sealed, all_zero, payload_of}
 use Rattle.blocks.proofs.Asked.{Sound}
 
 zero_list : (xs : List ℕ) → all_zero xs ≡ true → xs ≡ replicate (length xs) 0

@@ -1,12 +1,11 @@
 -- A sealed block opens, and gives its payload back.
-use Rattle.std.proofs.Common.{◌≡◌, ℕ, suc, ◌+◌, ◌*◌, ◌/◌, ◌%◌, ◌^◌, ◌<◌, true, List, [], ◌∷◌, ◌++◌, length, get_or, take, replicate, None, Ok, fold, sym, refl, ap, ◌∙◌, arith, length-append}
-use Rattle.std.specs.List.{between}
+use Rattle.std.proofs.Common.{◌≡◌, ℕ, suc, ◌+◌, ◌*◌, ◌/◌, ◌%◌, ◌^◌, ◌<◌, List, [], ◌∷◌, ◌++◌, length, get_or, take, replicate, None, Ok, fold, sym, refl, ap, ◌∙◌, arith, length-append}
 use Rattle.std.proofs.lemmas.Nat.{xor_lt}
 use Rattle.std.proofs.lemmas.List.{take_at, get_or-append_right}
 use Rattle.questions.specs.Questions.{answered}
 use Rattle.blocks.specs.Asking.{opening, opened}
 use Rattle.blocks.specs.Check.{check_word, mixed, rotated}
-use Rattle.blocks.specs.Layout.{four_bytes, covered, sealed, four_at, all_zero, payload_of}
+use Rattle.blocks.specs.Layout.{four_bytes, covered, sealed, four_at, payload_of}
 use Rattle.blocks.proofs.Asked.{Sound, opens}
 use Rattle.blocks.proofs.Bytes.{Bytes, bytes_cons, bytes-append, bytes_zeros}
 

@@ -1,5 +1,5 @@
 -- What a book answers, by whether the block of an address is sound.
-use Rattle.std.proofs.Common.{◌≡◌, ℕ, ◌+◌, ◌*◌, ◌/◌, ◌%◌, ◌<◌, ◌≤◌, Bool, true, false, cond, ltb, List, length, get_or, take, drop, is_ok, Some, None, Ok, Err, Option, sym, refl, ap, ◌∙◌, arith}
+use Rattle.std.proofs.Common.{◌≡◌, ℕ, ◌+◌, ◌*◌, ◌/◌, ◌%◌, ◌<◌, ◌≤◌, Bool, true, false, cond, List, length, get_or, drop, is_ok, Some, None, Ok, Err, Option, sym, refl, ap, ◌∙◌, arith}
 use Rattle.std.proofs.lemmas.List.FromFn.{length-map-range_with_len, get_or-map-range_with_len}
 use Rattle.std.proofs.lemmas.List.{get_or-take, get_or-drop}
 use Rattle.std.proofs.lemmas.Bool.{ltb-true, ltb-false}
@@ -11,10 +11,10 @@ use Rattle.images.specs.Images.{blocks_in}
 use Rattle.memory.specs.declared.marks.Mark.TheVariants as marks
 use Rattle.memory.specs.declared.refusals.MemoryRefusal.{MemoryRefusal}
 use Rattle.memory.specs.declared.refusals.MemoryRefusal.TheVariants as refusals
-use Rattle.memory.specs.Cells.{Cell, cell_at, kept_cell, spoiled_cell, marked, read_out, wrote, written}
+use Rattle.memory.specs.Cells.{cell_at, kept_cell, spoiled_cell, marked, read_out, wrote, written}
 use Rattle.memory.proofs.Answers as answers
 use Rattle.memory.proofs.Laws as laws
-use Rattle.book.specs.Books.{block_at, book_cell, book_cells, book_size, cell_in, sound_at, sound_of}
+use Rattle.book.specs.Books.{block_at, book_cell, book_cells, book_size, cell_in, sound_of}
 
 pub length_book : (image : List ℕ) → length (book_cells image) ≡ book_size image
 unfolding book_cells

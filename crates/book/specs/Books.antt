@@ -1,5 +1,5 @@
 -- A read-only image of table blocks as a memory.
-use Rattle.std.specs.Prelude.{◌≡◌, ℕ, ◌*◌, ◌/◌, ◌%◌, Bool, cond, List, [], ◌∷◌, map, length, take, drop, is_ok, Some, None, Ok, Err, Option, Result, ◌==◌, nat_lt, slice_index}
+use Rattle.std.specs.Prelude.{◌≡◌, ℕ, ◌*◌, ◌/◌, ◌%◌, Bool, cond, List, ◌∷◌, map, length, take, drop, is_ok, Some, None, Ok, Err, Option, Result, ◌==◌, nat_lt, slice_index}
 use Rattle.std.specs.List.{range_with_len}
 use Rattle.questions.specs.Questions.{first_no}
 use Rattle.blocks.specs.Asking.{opened}

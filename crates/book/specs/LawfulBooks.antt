@@ -1,11 +1,11 @@
 -- Why a book keeps what every memory keeps. (A proof that the trait's members hold, so it stands here.)
-use Rattle.std.specs.Prelude.{◌≡◌, ℕ, zero, suc, ◌+◌, ◌/◌, ◌%◌, ◌≤◌, List, [], ◌∷◌, map, length, Ok, Err, Result, refl}
+use Rattle.std.specs.Prelude.{◌≡◌, ℕ, zero, suc, ◌+◌, ◌/◌, ◌%◌, ◌≤◌, List, map, length, Ok, Err, Result, refl}
 use Rattle.std.proofs.Common.{ap, arith}
 use Rattle.std.specs.List.{range_with_len}
 use Rattle.blocks.specs.declared.refusals.BlockRefusal.{BlockRefusal}
 use Rattle.images.specs.Images.{blocks_in}
 use Rattle.memory.specs.declared.marks.Mark.TheVariants as marks
-use Rattle.memory.specs.Cells.{Cell, Lawful, cell_at}
+use Rattle.memory.specs.Cells.{Lawful, cell_at}
 use Rattle.book.specs.Books.{book_cell, book_cells, book_size, cell_in, table_at}
 
 cell-zeroed : (gives : Result (List ℕ) BlockRefusal) (i : ℕ) → (cell_in gives i).mark ≡ marks.Spoiled → (cell_in gives i).byte ≡ 0

@@ -12,9 +12,9 @@ use std::process::Abort;
 use std::test::*;
 
 // The three blocks with another one in the middle.
-fn with_middle(rt: &HostRuntime, block: &[u8; BLOCK]) -> Result<Vec<u8>, Fail> {
+fn with_middle(rt: &(impl Abort + AllocGlobal), block: &[u8; BLOCK]) -> Result<Vec<u8>, Fail> {
     let mut image = three_blocks(rt)?;
-    assert!(image.len() == 3 * BLOCK);
+    assert!(rt; image.len() == 3 * BLOCK);
     image[BLOCK..2 * BLOCK].copy_from_slice(block);
     Ok(image)
 }

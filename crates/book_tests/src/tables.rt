@@ -5,7 +5,7 @@ use images::sealing::seal_all;
 use std::test::*;
 
 // Three table blocks, sealed; address a holds a mod 251.
-pub fn three_blocks(rt: &HostRuntime) -> Result<Vec<u8>, Fail> {
+pub fn three_blocks(rt: &impl AllocGlobal) -> Result<Vec<u8>, Fail> {
     let heap = rt.alloc();
     let mut bytes = Vec::new(heap);
     for at in 0..3 * PAYLOAD {

@@ -2,7 +2,6 @@
 use Rattle.std.specs.Prelude.{ℕ, Bool, true, cond, ◌&&◌, List, [], ◌∷◌, Some, None, Option, ◌==◌, slice_index}
 use Rattle.branches.specs.Branches.{decoded_branch, encoded_branch}
 use Rattle.branches.specs.Checks.{decoded_check, encoded_check}
-use Rattle.branches.specs.declared.branch.Branch.{Branch}
 use Rattle.branches.specs.declared.checks.Check.{Check}
 use Rattle.bundles.specs.declared.tails.Setup.{Setup}
 use Rattle.bundles.specs.declared.tails.Tail.{Tail}

@@ -1,5 +1,5 @@
 -- The stack effects of the own places, line by line.
-use Rattle.std.specs.Prelude.{◌≡◌, ℕ, List, ◌∷◌, Some, Option}
+use Rattle.std.specs.Prelude.{◌≡◌, ℕ, List, ◌∷◌, Some}
 use Rattle.operations.specs.declared.operands.Operand.TheVariants.{Own}
 use Rattle.operations.specs.declared.places.Place.TheVariants.{S0, S1, S2, S3, S4, S5, S6, S7}
 use Rattle.operations.specs.declared.places.StackNumber.{StackNumber}

@@ -8,7 +8,7 @@ use Rattle.operations.specs.declared.operands.Operand.TheVariants.{Own, Moved, O
 use Rattle.operations.specs.declared.places.Near.{Near}
 use Rattle.operations.specs.declared.places.Near.TheVariants.{S0, S1, S2, S3}
 use Rattle.operations.specs.declared.places.StackNumber.{StackNumber}
-use Rattle.stacks.specs.Held.{Held, held_at}
+use Rattle.stacks.specs.Held.{held_at}
 use Rattle.stacks.specs.declared.stack.Stack.{Stack}
 use Rattle.std.specs.List.{slice_get}
 

@@ -1,5 +1,5 @@
 -- Images: payloads sealed in order, and read back.
-use Rattle.std.specs.Prelude.{◌≡◌, ℕ, zero, suc, ◌+◌, ◌-◌, ◌*◌, ◌/◌, ◌%◌, min, Bool, cond, List, [], ◌∷◌, ◌++◌, length, take, drop, replicate, Some, None, Option, Result, ◌==◌, nat_le, slice_index}
+use Rattle.std.specs.Prelude.{ℕ, zero, suc, ◌+◌, ◌-◌, ◌/◌, ◌%◌, min, Bool, cond, List, [], ◌∷◌, ◌++◌, length, take, drop, replicate, Some, None, Option, Result, ◌==◌, nat_le, slice_index}
 use Rattle.questions.specs.Questions.{first_no, answered, or_else}
 use Rattle.blocks.specs.Asking.{opening}
 use Rattle.blocks.specs.Kinds.{kind_byte, most_blocks}

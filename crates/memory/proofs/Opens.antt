@@ -4,7 +4,7 @@ use lib.ListN.{length-map}
 use lib.Seq.{take-set-lt}
 use Rattle.std.proofs.lemmas.List.{get_or-map, get_or-take, map-set}
 use Rattle.memory.specs.declared.marks.Mark.TheVariants as marks
-use Rattle.memory.specs.Cells.{Cell, cell_at, open_cell, spoiled_cell, marked, read_out, wrote, written}
+use Rattle.memory.specs.Cells.{cell_at, open_cell, spoiled_cell, marked, read_out, wrote, written}
 use Rattle.memory.specs.Works.{open_cells}
 use Rattle.memory.proofs.Answers as answers
 use Rattle.memory.proofs.Laws as laws

@@ -1,8 +1,7 @@
 -- Why a join keeps what every memory keeps. (A proof that the trait's members hold, so it stands here.)
-use Rattle.std.specs.Prelude.{◌≡◌, ℕ, zero, suc, List, [], ◌∷◌, ◌++◌, map, length, take, refl}
+use Rattle.std.specs.Prelude.{◌≡◌, ℕ, zero, suc, List, [], ◌∷◌, ◌++◌, take, refl}
 use Rattle.std.proofs.lemmas.List.{map-append}
-use Rattle.std.proofs.Common.{sym, ap, ◌∙◌, arith, length-take}
-use Rattle.memory.specs.declared.marks.Mark.{Mark}
+use Rattle.std.proofs.Common.{ap, ◌∙◌, arith, length-take}
 use Rattle.memory.specs.declared.marks.Mark.TheVariants as marks
 use Rattle.memory.specs.Cells.{Cell, Lawful, cell_at, marks_of}
 use Rattle.memory.specs.Joins.{joined}

@@ -2,9 +2,8 @@
 use Rattle.std.specs.Prelude.{◌≡◌, ℕ, zero, suc, List, [], ◌∷◌, map, length, take, refl}
 use Rattle.std.proofs.Common.{◌∙◌, ap, arith, length-take}
 use Rattle.std.proofs.lemmas.List.{length-map}
-use Rattle.memory.specs.declared.marks.Mark.{Mark}
 use Rattle.memory.specs.declared.marks.Mark.TheVariants as marks
-use Rattle.memory.specs.Cells.{Cell, Lawful, Steady, cell_at, marks_of, open_cell}
+use Rattle.memory.specs.Cells.{Lawful, Steady, cell_at, marks_of, open_cell}
 use Rattle.memory.specs.Works.{open_cells, SameBytes}
 
 all_sound : (bytes : List ℕ) (at : ℕ) → (cell_at (map open_cell bytes) at).mark ≡ marks.Spoiled → (cell_at (map open_cell bytes) at).byte ≡ 0

@@ -1,5 +1,5 @@
 -- What a sparse memory has at each place, and what it then answers and holds.
-use Rattle.std.proofs.Common.{◌≡◌, ℕ, suc, ◌+◌, ◌-◌, ◌<◌, ◌≤◌, List, ◌∷◌, ◌++◌, map, length, get_or, set, replicate, Ok, Err, sym, refl, ap, ◌∙◌, arith, length-append}
+use Rattle.std.proofs.Common.{◌≡◌, ℕ, suc, ◌+◌, ◌-◌, ◌<◌, ◌≤◌, List, ◌∷◌, ◌++◌, map, length, get_or, set, replicate, Ok, Err, sym, ap, ◌∙◌, arith, length-append}
 use lib.ListN.{length-replicate, length-map}
 use Rattle.std.proofs.lemmas.List.{get_or-replicate, get_or_append_left, get_or-append_right, get_or-map, set-append_right, map-set}
 use Rattle.memory.specs.declared.marks.Mark.TheVariants as marks

@@ -1,9 +1,9 @@
 -- Why a sparse memory keeps what every memory keeps. (A proof that the trait's members hold, so it stands here.)
-use Rattle.std.specs.Prelude.{◌≡◌, ℕ, zero, suc, ◌≤◌, List, [], ◌∷◌, ◌++◌, map, length, replicate, refl}
+use Rattle.std.specs.Prelude.{◌≡◌, ℕ, zero, suc, ◌≤◌, List, [], ◌∷◌, map, length, refl}
 use Rattle.std.proofs.Common.{ap, arith, length-append}
 use Rattle.std.proofs.lemmas.List.{length-replicate, length-map}
 use Rattle.memory.specs.declared.marks.Mark.TheVariants as marks
-use Rattle.memory.specs.Cells.{Cell, Lawful, cell_at, marks_of, open_cell, kept_cell, spoiled_cell}
+use Rattle.memory.specs.Cells.{Lawful, cell_at, marks_of, open_cell}
 use Rattle.memory_tests.specs.Sparse.{sparse_cells}
 
 open_zeroed : (bytes : List ℕ) (at : ℕ) → (cell_at (map open_cell bytes) at).mark ≡ marks.Spoiled → (cell_at (map open_cell bytes) at).byte ≡ 0

@@ -1,5 +1,5 @@
 -- A sparse memory: a hole of spoiled bytes that takes no room, one kept byte, and open bytes.
-use Rattle.std.specs.Prelude.{◌≡◌, ℕ, List, ◌∷◌, ◌++◌, map, replicate}
+use Rattle.std.specs.Prelude.{ℕ, List, ◌∷◌, ◌++◌, map, replicate}
 use Rattle.memory.specs.Cells.{Cell, open_cell, kept_cell, spoiled_cell}
 
 -- what it means

@@ -17,7 +17,6 @@ use Rattle.operations.specs.declared.kinds.Shift.TheVariants.{Asr, Lsr, Ror, Ror
 use Rattle.operations.specs.declared.kinds.Special.{Special}
 use Rattle.operations.specs.declared.kinds.Special.TheVariants.{FetchIp, StoreIp, FetchCount, StoreCount}
 use Rattle.operations.specs.declared.operands.Operand.{Operand}
-use Rattle.operations.specs.declared.operation.Operation.{Operation}
 use Rattle.operations.specs.declared.operation.Operation.TheVariants as operation
 use Rattle.std.proofs.lemmas.Bool.{cond_both, eqb-true, le-ltb, lt-ltb}
 use Rattle.std.specs.Option.{option_map}

@@ -1,11 +1,7 @@
 -- The code of an accepted image is at most 63,488 bundles.
-use Rattle.std.proofs.Common.{◌≡◌, ℕ, ◌*◌, ◌%◌, ◌≤◌, eqb, leb, List, [], ◌∷◌, length, None, arith}
-use Rattle.std.proofs.lemmas.Bool.{leb-true}
-use Rattle.questions.specs.Questions.{first_no}
-use Rattle.questions.proofs.Answered.{passed}
+use Rattle.std.proofs.Common.{◌≡◌, ℕ, ◌≤◌, List, length, None, arith}
 use Rattle.blocks.specs.declared.kinds.Kind.TheVariants.{Code}
-use Rattle.images.specs.Images.{blocks_in, checking, payloads_of, sizes, blocks_asked}
-use Rattle.images.specs.declared.refusals.ImageRefusal.TheVariants.{Length}
+use Rattle.images.specs.Images.{blocks_in, checking}
 use Rattle.images.proofs.OnlySealed.{accepted_image, accepted-size, length-payloads}
 use Rattle.program.specs.Loading.{code_of}
 

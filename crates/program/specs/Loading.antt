@@ -1,5 +1,5 @@
 -- The bundles of a code image, and what is asked before they make a program.
-use Rattle.std.specs.Prelude.{◌≡◌, ℕ, zero, suc, ◌+◌, ◌/◌, List, [], ◌∷◌, ◌++◌, length, take, drop, Some, None, Ok, Err, vec_items, Option, Result}
+use Rattle.std.specs.Prelude.{ℕ, zero, suc, ◌+◌, ◌/◌, List, [], ◌∷◌, length, take, drop, Some, None, Option}
 use Rattle.questions.specs.Questions.{or_else}
 use Rattle.blocks.specs.declared.kinds.Kind.TheVariants.{Code}
 use Rattle.images.specs.Images.{blocks_in, checking, payloads_of}

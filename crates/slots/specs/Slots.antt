@@ -1,6 +1,6 @@
 -- What each operation makes of its stack h. Lists have the top first; beside each rule stands the stack effect with
 -- the top last. None says that words lack.
-use Rattle.std.specs.Prelude.{ℕ, ◌*◌, ◌/◌, ◌^◌, Bool, true, false, cond, List, [], ◌∷◌, length, ℤ, Some, None, Option, nat_le, nat_lt}
+use Rattle.std.specs.Prelude.{ℕ, ◌*◌, ◌/◌, true, false, cond, List, [], ◌∷◌, length, Some, None, Option, nat_le, nat_lt}
 use Rattle.std.specs.Int.{w32}
 use Rattle.std.proofs.Common.{of_z}
 use Rattle.alu.specs.Alu.{append, combine, fetched, flag_of, scanned, shifted}

@@ -1,5 +1,5 @@
 -- The end of a list of 64 cells: its length, and what stands in it.
-use Rattle.std.proofs.Common.{◌≡◌, ℕ, ◌+◌, ◌-◌, ◌<◌, ◌≤◌, List, ◌∷◌, length, get_or, drop, set, Some, None, Option, sym, ap, ◌∙◌, add-zero, arith, length-drop, get_or-drop, drop-drop}
+use Rattle.std.proofs.Common.{◌≡◌, ℕ, ◌+◌, ◌-◌, ◌<◌, ◌≤◌, List, ◌∷◌, length, get_or, drop, set, Some, None, sym, ap, ◌∙◌, add-zero, arith, length-drop, get_or-drop, drop-drop}
 use lib.Seq.{drop-set-add, set_out}
 use Rattle.std.proofs.lemmas.List.{drop_all, drop-set}
 use Rattle.std.specs.List.{slice_get}

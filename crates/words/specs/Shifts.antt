@@ -1,5 +1,5 @@
 -- Shifts and rotations by one place.
-use Rattle.std.specs.Prelude.{◌≡◌, ℕ, ◌+◌, ◌*◌, ◌/◌, ◌%◌, ◌^◌, Bool, false, ℤ, pos, ◌+ℤ◌, ◌==◌, nat_le}
+use Rattle.std.specs.Prelude.{◌≡◌, ℕ, ◌+◌, ◌*◌, ◌/◌, ◌%◌, ◌^◌, Bool, false, pos, ◌+ℤ◌, ◌==◌, nat_le}
 use Rattle.words.specs.Words.{bit, differ, signed}
 use Rattle.words.specs.declared.flagged.Flagged.{Flagged}
 

@@ -1,4 +1,4 @@
-use Rattle.std.proofs.Common.{◌≡◌, sym, ap, ◌∙◌}
+use Rattle.std.proofs.Common.{sym, ap}
 use Rattle.questions.specs.Questions.{answered}
 use Rattle.questions.proofs.Answered.{accepted, refused}
 use Rattle.images.specs.Images.{in_block}

@@ -1,7 +1,7 @@
 use Rattle.std.proofs.Common.{◌≡◌, pos, ◌+ℤ◌, ◌-ℤ◌, sym, subst, arith}
 use Rattle.std.proofs.lemmas.Int.{ints}
 use Rattle.words.specs.Comparisons.{Compares}
-use Rattle.words.specs.Sums.{BorrowExact, ExactlyUnlessOverflow, sub}
+use Rattle.words.specs.Sums.{BorrowExact, ExactlyUnlessOverflow}
 use Rattle.words.specs.Words.{signed}
 use Rattle.words.proofs.Comparing.{compares}
 use Rattle.words.proofs.Exactness.{sub_borrows}

@@ -1,4 +1,4 @@
-use Rattle.std.proofs.Common.{◌≡◌, ◌-◌, ◌<◌, ◌≤◌, length, sym, refl, ap, ◌∙◌, arith}
+use Rattle.std.proofs.Common.{◌-◌, ◌<◌, ◌≤◌, length, sym, refl, ap, ◌∙◌, arith}
 use Rattle.memory.specs.Cells.{marked}
 use Rattle.memory.specs.Joins.{joined, cut_off}
 use Rattle.memory.proofs.Answers.{marked-outside}

@@ -1,4 +1,4 @@
-use Rattle.std.proofs.Common.{sym, refl, ◌∙◌, arith}
+use Rattle.std.proofs.Common.{sym, refl, arith}
 use Rattle.memory.proofs.Laws.{written-refused}
 use Rattle.memory.specs.declared.refusals.MemoryRefusal.TheVariants as refusals
 use Rattle.memory_tests.specs.Sparse.{sparse_cells}

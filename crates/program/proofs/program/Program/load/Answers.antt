@@ -1,4 +1,4 @@
-use Rattle.std.proofs.Common.{◌≡◌, ◌≤◌, length, sym, ap, ◌∙◌, arith}
+use Rattle.std.proofs.Common.{◌≡◌, length, ap, ◌∙◌, arith}
 use Rattle.program.specs.Loading.{code_of}
 use Rattle.program.proofs.CodeLength.{code_length}
 use Rattle.program.proofs.program.Program.load.Goals as goal

@@ -1,4 +1,4 @@
-use Rattle.std.proofs.Common.{◌≡◌, sym, ◌∙◌, inl, inr, arith}
+use Rattle.std.proofs.Common.{sym, ◌∙◌, inl, inr, arith}
 use Rattle.stacks.specs.Words.{words_in}
 use Rattle.stacks.proofs.Pins.{pin_else, pin_here, pin_past}
 use Rattle.stacks.proofs.words.Words.get_after.Goals as goal

@@ -1,4 +1,4 @@
-use Rattle.std.proofs.Common.{◌≡◌, ℕ, ◌≤◌, List, length, drop, sym, ◌∙◌, arith, length-drop, rules}
+use Rattle.std.proofs.Common.{ℕ, ◌≤◌, List, length, drop, sym, ◌∙◌, arith, length-drop}
 use Rattle.std.proofs.iter.runs.Lists.{nth_drop}
 use Rattle.std.proofs.lemmas.Option.{slice_get_past}
 use Rattle.stacks.specs.Words.{words_in}

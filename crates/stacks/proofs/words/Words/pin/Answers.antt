@@ -1,4 +1,3 @@
-use Rattle.std.proofs.Common.{◌≡◌}
 use Rattle.stacks.specs.Words.{words_in}
 use Rattle.stacks.proofs.Pins.{pin_by_copy}
 use Rattle.stacks.proofs.words.Words.pin.Goals as goal
