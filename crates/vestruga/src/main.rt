@@ -14,27 +14,28 @@ mod troubles;
 
 use self::command::{Command, parse};
 use self::troubles::Trouble;
-use anyhow::anyhow;
 use std::alloc::Global;
 use std::env;
+use std::process::ExitCode;
 
-fn main(rt: HostRuntime) -> anyhow::Result<()> {
+fn main(rt: HostRuntime) -> anyhow::Result<ExitCode> {
     let mut arguments = Vec::new(rt.alloc());
     for argument in env::args(&rt)?.skip(1) {
         arguments.push(argument)?;
     }
     if arguments.is_empty() {
-        return script(&rt);
+        script(&rt)?;
+        return Ok(ExitCode::SUCCESS);
     }
     let mut words = Vec::new(rt.alloc());
     for argument in arguments.iter() {
         words.push(argument.as_str())?;
     }
     match run(&rt, &words) {
-        Ok(()) => Ok(()),
+        Ok(()) => Ok(ExitCode::SUCCESS),
         Err(trouble) => {
             eprintln!(rt; "vestruga: {trouble}")?;
-            Err(anyhow!("the command was not carried out"))
+            Ok(ExitCode::FAILURE)
         }
     }
 }
