@@ -1,5 +1,5 @@
--- The number of each fault, and the question that got a no.
-use Rattle.std.specs.Prelude.{ℕ, List, codes}
+-- The number of each fault, the question that got a no, and how both are shown.
+use Rattle.std.specs.Prelude.{ℕ, List, ◌++◌, codes, decimal}
 use Rattle.drafts.specs.declared.draft.SlotFault.{SlotFault}
 use Rattle.drafts.specs.declared.draft.SlotFault.TheVariants.{Lacking, Crowded}
 
@@ -12,3 +12,7 @@ fault_number Crowded = 47
 abbrev pub fault_question : SlotFault → List ℕ
 fault_question Lacking = codes "Are there words enough?"
 fault_question Crowded = codes "Do 64 words hold the stack after the part?"
+
+-- how it is shown: the number, then the question
+abbrev pub fault_text : SlotFault → List ℕ
+fault_text fault = decimal (fault_number fault) ++ codes ": " ++ fault_question fault

@@ -1,6 +1,6 @@
 // The questions that a slot asks, by the numbers of their faults.
-ghost use Rattle.std.specs.Prelude.{◌≡◌};
-ghost use Rattle.drafts.specs.Faults.{fault_number, fault_question};
+ghost use Rattle.std.specs.Prelude.{◌≡◌, Some};
+ghost use Rattle.drafts.specs.Faults.{fault_number, fault_question, fault_text};
 
 use super::draft::SlotFault;
 use std::fmt;
@@ -23,6 +23,8 @@ impl SlotFault {
 }
 
 impl fmt::Display for SlotFault {
+    ghost output = { λ fault. Some (fault_text fault) };
+
     fn fmt<W: fmt::Write>(&self, f: &mut fmt::Formatter<W>) -> fmt::Result {
         write!(f, "{}: {}", self.number(), self.question())
     }
