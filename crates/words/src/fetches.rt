@@ -20,19 +20,18 @@ pub fn fetch_negated(latch: u64) -> u64
     ensures value { result ≡ fetch_negated latch }
     ensures exact { (latch + result) % 2 ^ 64 ≡ 0 }
 {
-    0u64.wrapping_sub(latch)
+    latch.wrapping_neg()
 }
 
 pub fn fetch_added(latch: u64, d: u64, count: u32) -> Accumulated
     ensures value { result ≡ fetch_added latch d count }
     ensures kept { SumKept latch d count result }
 {
-    let value = d.wrapping_add(latch);
-    let carry = value < d;
+    let (value, carry) = d.overflowing_add(latch);
     Accumulated {
         value,
         carry,
-        count: if carry { count.wrapping_add(1) } else { count },
+        count: count.wrapping_add(u32::from(carry)),
     }
 }
 
@@ -40,10 +39,10 @@ pub fn fetch_subtracted(latch: u64, d: u64, count: u32) -> Accumulated
     ensures value { result ≡ fetch_subtracted latch d count }
     ensures kept { DifferenceKept latch d count result }
 {
-    let carry = d >= latch;
+    let (value, borrowed) = d.overflowing_sub(latch);
     Accumulated {
-        value: d.wrapping_sub(latch),
-        carry,
-        count: if carry { count } else { count.wrapping_sub(1) },
+        value,
+        carry: !borrowed,
+        count: count.wrapping_sub(u32::from(borrowed)),
     }
 }

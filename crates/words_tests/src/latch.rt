@@ -34,14 +34,13 @@ fn multiplied(rt: HostRuntime) {
 fn in_two_words(rt: HostRuntime) {
     assert_eq!(rt; pass(1, 2), 0x2_0000_0001);
     assert_eq!(rt;
-        Pair {
+        u64::from(Pair {
             low: 0xFFFF_FFFA,
             high: 0xFFFF_FFFF,
-        }
-        .number(),
+        }),
         0xFFFF_FFFF_FFFF_FFFA
     );
-    assert_eq!(rt; Pair::of(0x2_0000_0001), Pair { low: 1, high: 2 });
+    assert_eq!(rt; Pair::from(0x2_0000_0001), Pair { low: 1, high: 2 });
 }
 
 #[test]
