@@ -56,6 +56,15 @@ fn fetched(rt: HostRuntime) {
     }
 }
 
+// A number with its carry count; the carry before an accumulating fetch does not matter.
+fn counted(value: u64, count: u32) -> Accumulated {
+    Accumulated {
+        value,
+        carry: false,
+        count,
+    }
+}
+
 // The latch, the number, the count; then the number, the carry and the count.
 #[test]
 fn accumulated(rt: HostRuntime) {
@@ -67,7 +76,7 @@ fn accumulated(rt: HostRuntime) {
     ];
     for (latch, d, before, value, carry, count) in added {
         assert_eq!(rt;
-            fetch_added(latch, d, before),
+            fetch_added(latch, counted(d, before)),
             Accumulated {
                 value,
                 carry,
@@ -83,7 +92,7 @@ fn accumulated(rt: HostRuntime) {
     ];
     for (latch, d, before, value, carry, count) in subtracted {
         assert_eq!(rt;
-            fetch_subtracted(latch, d, before),
+            fetch_subtracted(latch, counted(d, before)),
             Accumulated {
                 value,
                 carry,
