@@ -66,7 +66,7 @@ pub fn add(n1: u32, n2: u32) -> Flagged
     addc(n1, n2, false)
 }
 
-#[tactic(auto, using(crate::proofs::Exactness::sub_borrows, crate::proofs::Comparing::compares))]
+#[tactic(auto, using(std::proofs::lemmas::Bool::Decides::nat_tests, crate::proofs::Comparing::compares))]
 pub fn sub(n1: u32, n2: u32) -> Flagged
     ensures value { result ≡ sub n1 n2 }
     ensures borrows { BorrowExact n1 n2 result }
