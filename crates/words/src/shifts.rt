@@ -5,6 +5,7 @@ ghost use Rattle.words.specs.Sums.{CarryExact, ExactlyUnlessOverflow};
 ghost use Rattle.words.specs.Words.{bit, signed};
 
 use crate::flagged::Flagged;
+use crate::flags::Flags;
 
 fn lowest(u: u32) -> bool
     ensures { result ≡ lowest u }
@@ -18,29 +19,31 @@ fn highest(u: u32) -> bool
     u >= 0x8000_0000
 }
 
+// No shift but asl, and no rotation, overflows.
+fn carried(word: u32, carry: bool) -> Flagged
+    ensures { result ≡ record { word = word; flags = record { carry = carry; overflow = false } } }
+{
+    Flagged {
+        word,
+        flags: Flags {
+            carry,
+            overflow: false,
+        },
+    }
+}
+
 fn right(u: u32, h: bool) -> Flagged
     ensures value { result ≡ right u h }
     ensures exact { RightExact u h result }
 {
-    let word = if h { (u >> 1) + 0x8000_0000 } else { u >> 1 };
-    Flagged {
-        word,
-        carry: lowest(u),
-        overflow: false,
-    }
+    carried((u >> 1) + (u32::from(h) << 31), lowest(u))
 }
 
 fn left(u: u32, l: bool) -> Flagged
     ensures value { result ≡ left u l }
     ensures exact { CarryExact (u * 2 + bit l) result }
 {
-    let doubled = u.wrapping_add(u);
-    let word = if l { doubled.wrapping_add(1) } else { doubled };
-    Flagged {
-        word,
-        carry: highest(u),
-        overflow: false,
-    }
+    carried((u << 1) + u32::from(l), highest(u))
 }
 
 pub fn asr(n: u32) -> Flagged
@@ -57,22 +60,18 @@ pub fn lsr(u: u32) -> Flagged
     right(u, false)
 }
 
-// To the right by one place is to the left by all others.
+#[tactic(auto, using(crate::proofs::Rotations::rotated_right))]
 pub fn ror(u: u32) -> Flagged
     ensures value { result ≡ ror u }
     ensures back { (rol result.word).word ≡ u }
 {
-    Flagged {
-        word: u.rotate_left(31),
-        carry: lowest(u),
-        overflow: false,
-    }
+    carried(u.rotate_right(1), lowest(u))
 }
 
 pub fn rorc(u: u32, c: bool) -> Flagged
     ensures value { result ≡ rorc u c }
     ensures exact { RightExact u c result }
-    ensures back { Back u c (rolc result.word result.carry) }
+    ensures back { Back u c (rolc result.word result.flags.carry) }
 {
     right(u, c)
 }
@@ -81,11 +80,13 @@ pub fn asl(n: u32) -> Flagged
     ensures value { result ≡ asl n }
     ensures exact { ExactlyUnlessOverflow (signed n +ℤ signed n) result }
 {
-    let word = n.wrapping_add(n);
+    let Flagged { word, flags } = lsl(n);
     Flagged {
         word,
-        carry: highest(n),
-        overflow: highest(n) != highest(word),
+        flags: Flags {
+            overflow: highest(n) != highest(word),
+            ..flags
+        },
     }
 }
 
@@ -96,21 +97,18 @@ pub fn lsl(u: u32) -> Flagged
     left(u, false)
 }
 
+#[tactic(auto, using(crate::proofs::Rotations::rotated_left))]
 pub fn rol(u: u32) -> Flagged
     ensures value { result ≡ rol u }
     ensures back { (ror result.word).word ≡ u }
 {
-    Flagged {
-        word: u.rotate_left(1),
-        carry: highest(u),
-        overflow: false,
-    }
+    carried(u.rotate_left(1), highest(u))
 }
 
 pub fn rolc(u: u32, c: bool) -> Flagged
     ensures value { result ≡ rolc u c }
     ensures exact { CarryExact (u * 2 + bit c) result }
-    ensures back { Back u c (rorc result.word result.carry) }
+    ensures back { Back u c (rorc result.word result.flags.carry) }
 {
     left(u, c)
 }

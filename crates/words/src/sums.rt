@@ -5,39 +5,13 @@ ghost use Rattle.words.specs.Comparisons.{Compares};
 ghost use Rattle.words.specs.Sums.{BorrowExact, CarryExact, ExactlyUnlessOverflow, add, addc, sub, subc, subcr, subr};
 
 use crate::flagged::Flagged;
+use crate::flags::Flags;
 
-// The word as a signed number.
-fn signed_word(u: u32) -> i64
-    ensures { result ≡ signed u }
-{
-    u.cast_signed() as i64
-}
-
-// A flag as a number.
-fn one_if(c: bool) -> u32
-    ensures { result ≡ bit c }
-{
-    if c { 1 } else { 0 }
-}
-
+// Whether no word, read as signed, is z.
 fn is_outside(z: i64) -> bool
     ensures { result ≡ outside z }
 {
-    z < -0x8000_0000 || z >= 0x8000_0000
-}
-
-// The exact signed sum.
-fn sum(n1: u32, n2: u32, c: bool) -> i64
-    ensures { result ≡ signed n1 +ℤ signed n2 +ℤ pos (bit c) }
-{
-    signed_word(n1) + signed_word(n2) + one_if(c) as i64
-}
-
-// The exact signed difference.
-fn difference(n1: u32, n2: u32, c: bool) -> i64
-    ensures { result ≡ signed n1 -ℤ signed n2 +ℤ pos (bit c) }
-{
-    signed_word(n1) - signed_word(n2) + one_if(c) as i64
+    i32::try_from(z).is_err()
 }
 
 pub fn addc(n1: u32, n2: u32, c: bool) -> Flagged
@@ -45,11 +19,14 @@ pub fn addc(n1: u32, n2: u32, c: bool) -> Flagged
     ensures carries { CarryExact (n1 + n2 + bit c) result }
     ensures exact { ExactlyUnlessOverflow (signed n1 +ℤ signed n2 +ℤ pos (bit c)) result }
 {
-    let more = one_if(c);
+    let (word, carry) = n1.carrying_add(n2, c);
+    let sum = i64::from(n1.cast_signed()) + i64::from(n2.cast_signed()) + i64::from(c);
     Flagged {
-        word: n1.wrapping_add(n2).wrapping_add(more),
-        carry: n1 as u64 + n2 as u64 + more as u64 >= 0x1_0000_0000,
-        overflow: is_outside(sum(n1, n2, c)),
+        word,
+        flags: Flags {
+            carry,
+            overflow: is_outside(sum),
+        },
     }
 }
 
@@ -57,11 +34,13 @@ pub fn subc(n1: u32, n2: u32, c: bool) -> Flagged
     ensures value { result ≡ subc n1 n2 c }
     ensures exact { ExactlyUnlessOverflow (signed n1 -ℤ signed n2 +ℤ pos (bit c)) result }
 {
-    let more = one_if(c);
+    let difference = i64::from(n1.cast_signed()) - i64::from(n2.cast_signed()) + i64::from(c);
     Flagged {
-        word: n1.wrapping_sub(n2).wrapping_add(more),
-        carry: n1 as u64 + more as u64 >= n2 as u64,
-        overflow: is_outside(difference(n1, n2, c)),
+        word: n1.wrapping_sub(n2).wrapping_add(u32::from(c)),
+        flags: Flags {
+            carry: u64::from(n1) + u64::from(c) >= u64::from(n2),
+            overflow: is_outside(difference),
+        },
     }
 }
 
@@ -80,6 +59,7 @@ pub fn add(n1: u32, n2: u32) -> Flagged
     addc(n1, n2, false)
 }
 
+#[tactic(auto, using(std::proofs::lemmas::Bool::Decides::nat_tests, crate::proofs::Comparing::compares))]
 pub fn sub(n1: u32, n2: u32) -> Flagged
     ensures value { result ≡ sub n1 n2 }
     ensures borrows { BorrowExact n1 n2 result }
