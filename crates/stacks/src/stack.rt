@@ -1,10 +1,10 @@
 ghost use Rattle.std.specs.Prelude.{◌≡◌};
-ghost use Rattle.stacks.specs.Held.{empty, held};
+ghost use Rattle.stacks.specs.Stacks.{empty};
 
 use super::words::Words;
 
 // A stack with its carry, its overflow, the flag X by which it skips its operations, and its carry count.
-#[derive(Clone, Copy)]
+#[derive(Clone, Copy, Debug, PartialEq, Eq)]
 pub struct Stack {
     pub words: Words,
     pub carry: bool,
@@ -15,7 +15,7 @@ pub struct Stack {
 
 impl Stack {
     pub fn new() -> Stack
-        ensures { held result ≡ empty }
+        ensures { result ≡ empty }
     {
         Stack {
             words: Words::new(),

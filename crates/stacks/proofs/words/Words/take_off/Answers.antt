@@ -1,11 +1,15 @@
-use Rattle.std.proofs.Common.{◌≡◌, length, sym, drop-drop, rules}
-use Rattle.stacks.proofs.Ends.{end_dropped}
+use Rattle.std.proofs.Common.{◌+◌, ◌∙◌, ap, drop, ℕ, List, refl}
+use Rattle.stacks.proofs.Ends.{take_off_lies, take_off_words}
 use Rattle.stacks.proofs.words.Words.take_off.Goals as goal
 
-pub returns-then-off-self : goal.returns-then-off-self
-returns-then-off-self c = sym (drop-drop c.args.off c.args.self.now.top c.args.self.now.cells)
+pub invariant_of-self : goal.invariant_of-self
+invariant_of-self c =
+    let w = c.self.inside in
+    let top = ap (λ (k : ℕ). w.top + k) c.min.ensures in
+    take_off_lies w.cells w.top c.self.invariant c.self.told _ _ c.args.off _ top refl (c.fill.ensures.after (λ y h. h))
 
-pub returns-else-off-self : goal.returns-else-off-self
-returns-else-off-self c =
-    let n : length c.args.self.now.cells ≡ 64 = search rules in
-    end_dropped c.args.self.now.cells c.args.self.now.top n c.args.off (search rules) (search rules)
+pub returns : goal.returns
+returns c =
+    let w = c.self.inside in
+    let top = ap (λ (k : ℕ). w.top + k) c.min.ensures in
+    take_off_words w.cells w.top c.self.invariant c.self.told _ _ c.args.off _ top refl (c.fill.ensures.after (λ y h. h)) ∙ ap (λ (xs : List ℕ). drop c.args.off xs) c.self.view_is
