@@ -1,4 +1,4 @@
--- What each kind of operation computes. n1 is the word below the top, n2 the top; c and o are the flags before it.
+-- What each kind of operation computes. n1 is the word below the top, n2 the top; f are the flags before it, c and cc the carry and the carry count.
 use Rattle.std.specs.Prelude.{ℕ, ◌+◌, ◌*◌, ◌%◌, ◌^◌, Bool}
 use Rattle.operations.specs.declared.kinds.Binary.{Binary}
 use Rattle.operations.specs.declared.kinds.Binary.TheVariants.{Or, And, Xor, Add, Sub, Subr, Addc, Subc, Subcr}
@@ -18,26 +18,27 @@ use Rattle.words.specs.Sums.{add, addc, sub, subc, subcr, subr}
 use Rattle.words.specs.declared.condition.Condition.{Condition}
 use Rattle.words.specs.declared.fetches.Accumulated.{Accumulated}
 use Rattle.words.specs.declared.flagged.Flagged.{Flagged}
+use Rattle.words.specs.declared.flags.Flags.{Flags}
 
 -- one word of two; or, and and xor leave the flags
-abbrev pub combine : Binary → ℕ → ℕ → Bool → Bool → Flagged
-combine Or n1 n2 c o = record { word = or n1 n2; carry = c; overflow = o }
-combine And n1 n2 c o = record { word = and n1 n2; carry = c; overflow = o }
-combine Xor n1 n2 c o = record { word = xor n1 n2; carry = c; overflow = o }
-combine Add n1 n2 c o = add n1 n2
-combine Sub n1 n2 c o = sub n1 n2
-combine Subr n1 n2 c o = subr n1 n2
-combine Addc n1 n2 c o = addc n1 n2 c
-combine Subc n1 n2 c o = subc n1 n2 c
-combine Subcr n1 n2 c o = subcr n1 n2 c
+abbrev pub combine : Binary → ℕ → ℕ → Flags → Flagged
+combine Or n1 n2 f = record { word = or n1 n2; flags = f }
+combine And n1 n2 f = record { word = and n1 n2; flags = f }
+combine Xor n1 n2 f = record { word = xor n1 n2; flags = f }
+combine Add n1 n2 f = add n1 n2
+combine Sub n1 n2 f = sub n1 n2
+combine Subr n1 n2 f = subr n1 n2
+combine Addc n1 n2 f = addc n1 n2 f.carry
+combine Subc n1 n2 f = subc n1 n2 f.carry
+combine Subcr n1 n2 f = subcr n1 n2 f.carry
 
 -- the word 8 places to the left, and a byte below it
 abbrev pub append : ℕ → ℕ → ℕ
 append u byte = (u * 2 ^ 8) % 2 ^ 32 + byte
 
 -- a condition's flag as a word
-abbrev pub flag_of : Condition → ℕ → Bool → Bool → ℕ
-flag_of condition u c o = flag_word (holds condition (of_word u c o))
+abbrev pub flag_of : Condition → ℕ → Flags → ℕ
+flag_of condition u f = flag_word (holds condition (of_word u f))
 
 -- one place to the right or to the left
 abbrev pub shifted : Shift → ℕ → Bool → Flagged

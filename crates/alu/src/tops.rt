@@ -5,6 +5,7 @@ ghost use Rattle.alu.specs.Alu.{append, flag_of, scanned, shifted};
 use operations::kinds::{Scan, Shift};
 use words::condition::Condition;
 use words::flagged::Flagged;
+use words::flags::Flags;
 use words::status::{Status, flag_word};
 use words::{bits, shifts, sums};
 
@@ -16,10 +17,10 @@ pub fn append(u: u32, byte: u8) -> u32
 }
 
 // Whether a condition holds of the top and the flags, as a word.
-pub fn flag_of(condition: Condition, u: u32, carry: bool, overflow: bool) -> u32
-    ensures { result ≡ flag_of condition u carry overflow }
+pub fn flag_of(condition: Condition, u: u32, flags: Flags) -> u32
+    ensures { result ≡ flag_of condition u flags }
 {
-    flag_word(condition.holds(Status::of_word(u, carry, overflow)))
+    flag_word(condition.holds(Status::of_word(u, flags)))
 }
 
 pub fn shifted(shift: Shift, u: u32, carry: bool) -> Flagged

@@ -57,10 +57,10 @@ module _ (a b : ℕ) (ha : a < 2 ^ 32) (hb : b < 2 ^ 32) where
   zero_is : eqb (sub a b).word 0 ≡ eqb a b
   zero_is = grind (arith, nat_tests)
 
-  overflow_is : (sub a b).overflow ≡ outside (signed a -ℤ signed b)
+  overflow_is : (sub a b).flags.overflow ≡ outside (signed a -ℤ signed b)
   overflow_is = let e : signed a -ℤ signed b +ℤ pos 0 ≡ signed a -ℤ signed b = omega (arith, ints) in ap outside e
 
-  less_is : differ (lt_z (signed (sub a b).word) (pos 0)) (sub a b).overflow ≡ lt_z (signed a) (signed b)
+  less_is : differ (lt_z (signed (sub a b).word) (pos 0)) (sub a b).flags.overflow ≡ lt_z (signed a) (signed b)
   less_is =
       let x = reads a ha in
       let y = reads b hb in

@@ -27,4 +27,4 @@ compared NotGreater a b = int_le (signed a) (signed b)
 
 -- r is the outcome of a − b: each of the sixteen conditions then compares a with b
 abbrev pub Compares : ℕ → ℕ → Flagged → Type 0
-Compares a b r = (k : Condition) → holds k (of_word r.word r.carry r.overflow) ≡ compared k a b
+Compares a b r = (k : Condition) → holds k (of_word r.word r.flags) ≡ compared k a b

@@ -3,35 +3,36 @@ use Rattle.std.specs.Prelude.{◌≡◌, ℕ, ◌-◌, ◌^◌, Bool, true, fals
 use Rattle.words.specs.Words.{differ, signed}
 use Rattle.words.specs.declared.condition.Condition.{Condition}
 use Rattle.words.specs.declared.condition.Condition.TheVariants.{True, Zero, Negative, Overflow, Below, Above, Less, Greater, False, NotZero, NotNegative, NoOverflow, NotBelow, NotAbove, NotLess, NotGreater}
+use Rattle.words.specs.declared.flags.Flags.{Flags}
 use Rattle.words.specs.declared.pair.Pair.{Pair}
 use Rattle.words.specs.declared.status.Status.{Status}
 
--- a word on top, with c and o
-abbrev pub of_word : ℕ → Bool → Bool → Status
-of_word u c o = record { zero = (u == 0); negative = int_lt (signed u) (pos 0); carry = c; overflow = o }
+-- a word on top, with the flags
+abbrev pub of_word : ℕ → Flags → Status
+of_word u f = record { zero = (u == 0); negative = int_lt (signed u) (pos 0); flags = f }
 
 -- a pair on top, its high word uppermost: it is 0 only if both words are
-abbrev pub of_pair : Pair → Bool → Bool → Status
-of_pair p c o = record { zero = p.low == 0 && (p.high == 0); negative = int_lt (signed p.high) (pos 0); carry = c; overflow = o }
+abbrev pub of_pair : Pair → Flags → Status
+of_pair p f = record { zero = p.low == 0 && (p.high == 0); negative = int_lt (signed p.high) (pos 0); flags = f }
 
 -- which conditions hold: t, 0=, 0<, ov, u<, u>, <, >, and f, 0<>, 0>=, no, u>=, u<=, >=, <=
 abbrev pub holds : Condition → Status → Bool
 holds True s = true
 holds Zero s = s.zero
 holds Negative s = s.negative
-holds Overflow s = s.overflow
-holds Below s = not s.carry
-holds Above s = s.carry && not s.zero
-holds Less s = differ s.negative s.overflow
-holds Greater s = not s.zero && not (differ s.negative s.overflow)
+holds Overflow s = s.flags.overflow
+holds Below s = not s.flags.carry
+holds Above s = s.flags.carry && not s.zero
+holds Less s = differ s.negative s.flags.overflow
+holds Greater s = not s.zero && not (differ s.negative s.flags.overflow)
 holds False s = false
 holds NotZero s = not s.zero
 holds NotNegative s = not s.negative
-holds NoOverflow s = not s.overflow
-holds NotBelow s = s.carry
-holds NotAbove s = not s.carry || s.zero
-holds NotLess s = not (differ s.negative s.overflow)
-holds NotGreater s = s.zero || differ s.negative s.overflow
+holds NoOverflow s = not s.flags.overflow
+holds NotBelow s = s.flags.carry
+holds NotAbove s = not s.flags.carry || s.zero
+holds NotLess s = not (differ s.negative s.flags.overflow)
+holds NotGreater s = s.zero || differ s.negative s.flags.overflow
 
 -- the conditions in the order of their numbers, 0 to 15
 abbrev pub numbered : List Condition

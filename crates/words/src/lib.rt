@@ -5,6 +5,7 @@ pub mod bits;
 pub mod condition;
 pub mod fetches;
 pub mod flagged;
+pub mod flags;
 pub mod pair;
 pub mod products;
 pub mod shifts;

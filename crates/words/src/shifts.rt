@@ -5,6 +5,7 @@ ghost use Rattle.words.specs.Sums.{CarryExact, ExactlyUnlessOverflow};
 ghost use Rattle.words.specs.Words.{bit, signed};
 
 use crate::flagged::Flagged;
+use crate::flags::Flags;
 
 fn lowest(u: u32) -> bool
     ensures { result ≡ lowest u }
@@ -25,8 +26,10 @@ fn right(u: u32, h: bool) -> Flagged
     let word = if h { (u >> 1) + 0x8000_0000 } else { u >> 1 };
     Flagged {
         word,
-        carry: lowest(u),
-        overflow: false,
+        flags: Flags {
+            carry: lowest(u),
+            overflow: false,
+        },
     }
 }
 
@@ -38,8 +41,10 @@ fn left(u: u32, l: bool) -> Flagged
     let word = if l { doubled.wrapping_add(1) } else { doubled };
     Flagged {
         word,
-        carry: highest(u),
-        overflow: false,
+        flags: Flags {
+            carry: highest(u),
+            overflow: false,
+        },
     }
 }
 
@@ -64,15 +69,17 @@ pub fn ror(u: u32) -> Flagged
 {
     Flagged {
         word: u.rotate_left(31),
-        carry: lowest(u),
-        overflow: false,
+        flags: Flags {
+            carry: lowest(u),
+            overflow: false,
+        },
     }
 }
 
 pub fn rorc(u: u32, c: bool) -> Flagged
     ensures value { result ≡ rorc u c }
     ensures exact { RightExact u c result }
-    ensures back { Back u c (rolc result.word result.carry) }
+    ensures back { Back u c (rolc result.word result.flags.carry) }
 {
     right(u, c)
 }
@@ -84,8 +91,10 @@ pub fn asl(n: u32) -> Flagged
     let word = n.wrapping_add(n);
     Flagged {
         word,
-        carry: highest(n),
-        overflow: highest(n) != highest(word),
+        flags: Flags {
+            carry: highest(n),
+            overflow: highest(n) != highest(word),
+        },
     }
 }
 
@@ -102,15 +111,17 @@ pub fn rol(u: u32) -> Flagged
 {
     Flagged {
         word: u.rotate_left(1),
-        carry: highest(u),
-        overflow: false,
+        flags: Flags {
+            carry: highest(u),
+            overflow: false,
+        },
     }
 }
 
 pub fn rolc(u: u32, c: bool) -> Flagged
     ensures value { result ≡ rolc u c }
     ensures exact { CarryExact (u * 2 + bit c) result }
-    ensures back { Back u c (rorc result.word result.carry) }
+    ensures back { Back u c (rorc result.word result.flags.carry) }
 {
     left(u, c)
 }

@@ -2,39 +2,37 @@ ghost use Rattle.std.specs.Prelude.{◌≡◌, not};
 ghost use Rattle.words.specs.Conditions.{EightApart, flag_word, holds, of_pair, of_word, opposite};
 
 use crate::condition::Condition;
+use crate::flags::Flags;
 use crate::pair::Pair;
 
-// What a condition looks at: whether the number on top is 0 or negative, and the flags c and o.
+// What a condition looks at: whether the number on top is 0 or negative, and the flags.
 #[derive(Clone, Copy, PartialEq, Eq, Debug)]
 pub struct Status {
     pub zero: bool,
     pub negative: bool,
-    pub carry: bool,
-    pub overflow: bool,
+    pub flags: Flags,
 }
 
 impl Status {
     // A word on top.
-    pub fn of_word(word: u32, carry: bool, overflow: bool) -> Status
-        ensures { result ≡ of_word word carry overflow }
+    pub fn of_word(word: u32, flags: Flags) -> Status
+        ensures { result ≡ of_word word flags }
     {
         Status {
             zero: word == 0,
             negative: word.cast_signed() < 0,
-            carry,
-            overflow,
+            flags,
         }
     }
 
     // A pair on top, its high word uppermost: it is 0 only if both its words are.
-    pub fn of_pair(pair: Pair, carry: bool, overflow: bool) -> Status
-        ensures { result ≡ of_pair pair carry overflow }
+    pub fn of_pair(pair: Pair, flags: Flags) -> Status
+        ensures { result ≡ of_pair pair flags }
     {
         Status {
             zero: pair.low == 0 && pair.high == 0,
             negative: pair.high.cast_signed() < 0,
-            carry,
-            overflow,
+            flags,
         }
     }
 }
@@ -48,8 +46,7 @@ impl Condition {
         let Status {
             zero,
             negative,
-            carry,
-            overflow,
+            flags: Flags { carry, overflow },
         } = status;
         match self {
             Condition::True => true,

@@ -5,6 +5,7 @@ ghost use Rattle.words.specs.Comparisons.{Compares};
 ghost use Rattle.words.specs.Sums.{BorrowExact, CarryExact, ExactlyUnlessOverflow, add, addc, sub, subc, subcr, subr};
 
 use crate::flagged::Flagged;
+use crate::flags::Flags;
 
 // The word as a signed number.
 fn signed_word(u: u32) -> i64
@@ -48,8 +49,10 @@ pub fn addc(n1: u32, n2: u32, c: bool) -> Flagged
     let more = one_if(c);
     Flagged {
         word: n1.wrapping_add(n2).wrapping_add(more),
-        carry: n1 as u64 + n2 as u64 + more as u64 >= 0x1_0000_0000,
-        overflow: is_outside(sum(n1, n2, c)),
+        flags: Flags {
+            carry: n1 as u64 + n2 as u64 + more as u64 >= 0x1_0000_0000,
+            overflow: is_outside(sum(n1, n2, c)),
+        },
     }
 }
 
@@ -60,8 +63,10 @@ pub fn subc(n1: u32, n2: u32, c: bool) -> Flagged
     let more = one_if(c);
     Flagged {
         word: n1.wrapping_sub(n2).wrapping_add(more),
-        carry: n1 as u64 + more as u64 >= n2 as u64,
-        overflow: is_outside(difference(n1, n2, c)),
+        flags: Flags {
+            carry: n1 as u64 + more as u64 >= n2 as u64,
+            overflow: is_outside(difference(n1, n2, c)),
+        },
     }
 }
 

@@ -1,4 +1,5 @@
 use words::condition::Condition;
+use words::flags::Flags;
 use words::pair::Pair;
 use words::status::{Status, flag_word};
 use words::sums::sub;
@@ -41,7 +42,7 @@ const COMPARED: [(u32, u32, [bool; 8]); 6] = [
 fn compared(rt: HostRuntime) {
     for (a, b, expected) in COMPARED {
         let difference = sub(a, b);
-        let status = Status::of_word(difference.word, difference.carry, difference.overflow);
+        let status = Status::of_word(difference.word, difference.flags);
         for ((condition, opposite), answer) in OPPOSITES.iter().zip(expected.iter()) {
             assert_eq!(rt; condition.holds(status), *answer);
             assert_eq!(rt; opposite.holds(status), !*answer);
@@ -60,14 +61,17 @@ fn of_a_pair(rt: HostRuntime) {
         (0, 0x8000_0000, false, true),
     ];
     for (low, high, zero, negative) in rows {
-        let status = Status::of_pair(Pair { low, high }, true, false);
+        let flags = Flags {
+            carry: true,
+            overflow: false,
+        };
+        let status = Status::of_pair(Pair { low, high }, flags);
         assert_eq!(rt;
             status,
             Status {
                 zero,
                 negative,
-                carry: true,
-                overflow: false,
+                flags,
             }
         );
     }

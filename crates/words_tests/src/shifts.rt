@@ -1,4 +1,5 @@
 use words::flagged::Flagged;
+use words::flags::Flags;
 use words::shifts::{asl, asr, lsl, lsr, rol, rolc, ror, rorc};
 
 // A word, with the word and the carry that come of it; the overflow is clear.
@@ -66,8 +67,10 @@ const ROTATED_LEFT: [Row; 5] = [
 fn clear(word: u32, carry: bool) -> Flagged {
     Flagged {
         word,
-        carry,
-        overflow: false,
+        flags: Flags {
+            carry,
+            overflow: false,
+        },
     }
 }
 
@@ -124,8 +127,7 @@ fn doubled(rt: HostRuntime) {
             asl(n),
             Flagged {
                 word,
-                carry,
-                overflow,
+                flags: Flags { carry, overflow },
             }
         );
     }

@@ -1,4 +1,5 @@
 use words::flagged::Flagged;
+use words::flags::Flags;
 use words::sums::{add, addc, sub, subc, subcr, subr};
 
 // n1 and n2, with the word, the carry and the overflow that come of them.
@@ -53,8 +54,7 @@ fn added(rt: HostRuntime) {
     for (n1, n2, word, carry, overflow) in ADDED {
         let expected = Flagged {
             word,
-            carry,
-            overflow,
+            flags: Flags { carry, overflow },
         };
         assert_eq!(rt; add(n1, n2), expected);
         assert_eq!(rt; add(n2, n1), expected);
@@ -67,8 +67,7 @@ fn subtracted(rt: HostRuntime) {
     for (n1, n2, word, carry, overflow) in SUBTRACTED {
         let expected = Flagged {
             word,
-            carry,
-            overflow,
+            flags: Flags { carry, overflow },
         };
         assert_eq!(rt; sub(n1, n2), expected);
         assert_eq!(rt; subr(n2, n1), expected);
@@ -84,16 +83,14 @@ fn with_a_carry(rt: HostRuntime) {
             addc(n1, n2, true),
             Flagged {
                 word,
-                carry,
-                overflow,
+                flags: Flags { carry, overflow },
             }
         );
     }
     for (n1, n2, word, carry, overflow) in SUBTRACTED_MORE {
         let expected = Flagged {
             word,
-            carry,
-            overflow,
+            flags: Flags { carry, overflow },
         };
         assert_eq!(rt; subc(n1, n2, true), expected);
         assert_eq!(rt; subcr(n2, n1, true), expected);

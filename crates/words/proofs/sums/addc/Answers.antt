@@ -11,7 +11,7 @@ returns c =
     let n2 = c.args.n2 in
     let w : ((n1 + n2) % 2 ^ 32 + c.one_if-more.result) % 2 ^ 32 ≡ (addc n1 n2 c.args.c).word = omega arith in
     let z : to_z w64 (of_z w64 c.sum.result) ≡ signed n1 +ℤ signed n2 +ℤ pos (bit c.args.c) = omega (arith, ints) in
-    let o : c.is_outside.result ≡ (addc n1 n2 c.args.c).overflow = c.is_outside.ensures ∙ ap outside z in
+    let o : c.is_outside.result ≡ (addc n1 n2 c.args.c).flags.overflow = c.is_outside.ensures ∙ ap outside z in
     let k = addc_carries n1 n2 c.args.c (omega arith) (omega arith) in
     let x = addc_exact n1 n2 c.args.c (omega arith) (omega arith) in
     record {
