@@ -1,6 +1,6 @@
 -- How a stack's words lie, the top first.
 use Rattle.std.specs.Prelude.{◌≡◌, ℕ, ◌+◌, ◌-◌, List, ◌++◌, length, take, drop, replicate}
-use Rattle.stacks.specs.declared.words.Words.TheInside.{Inside}
+use Rattle.stacks.specs.declared.contents.Words.TheInside.{Inside}
 
 -- they lie at the end of the cells
 abbrev pub words_in : Inside → List ℕ

@@ -1,7 +1,7 @@
 -- The words tell all of how they lie.
 use Rattle.std.proofs.Common.{◌≡◌, ℕ, ◌-◌, List, ◌++◌, length, replicate, sym, ap, ◌∙◌, refl, arith}
 use Rattle.std.proofs.lemmas.List.{take-append-drop}
-use Rattle.stacks.specs.declared.words.Words.TheInside.{Inside}
+use Rattle.stacks.specs.declared.contents.Words.TheInside.{Inside}
 use Rattle.stacks.specs.Words.{LieAtTheEnd, laid_out, words_in}
 
 pub laid_out_again : (w : Inside) → LieAtTheEnd w → laid_out (words_in w) ≡ w

@@ -4,7 +4,7 @@ ghost use Rattle.stacks.specs.Changes.{changed};
 ghost use Rattle.std.specs.List.{slice_get};
 
 use super::changes::Change;
-use super::words::Words;
+use super::contents::Words;
 
 impl Words {
     pub fn new() -> Words
@@ -17,7 +17,7 @@ impl Words {
     }
 
     // The words, the top first.
-    pub(crate) fn as_slice(&self) -> &[u32]
+    pub fn as_slice(&self) -> &[u32]
         ensures value { result.now ≡ self.now }
         ensures below { length self.now ≤ 64 }
     {

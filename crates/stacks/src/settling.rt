@@ -4,7 +4,7 @@ ghost use Rattle.stacks.specs.Changes.{changed, few_words, pinned as pinned_at, 
 ghost use Rattle.stacks.specs.Pins.{Pins};
 
 use super::changes::{Change, Few};
-use super::words::Words;
+use super::contents::Words;
 
 impl Words {
     // Carries a change out if 64 words hold what it leaves; else nothing changes.

@@ -1,6 +1,6 @@
 use Rattle.std.proofs.Common.{◌+◌, ◌∙◌, ap, drop, ℕ, List, refl}
 use Rattle.stacks.proofs.Ends.{take_off_lies, take_off_words}
-use Rattle.stacks.proofs.words.Words.take_off.Goals as goal
+use Rattle.stacks.proofs.contents.Words.take_off.Goals as goal
 
 pub invariant_of-self : goal.invariant_of-self
 invariant_of-self c =

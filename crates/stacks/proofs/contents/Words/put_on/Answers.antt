@@ -1,7 +1,7 @@
 use Rattle.std.proofs.Common.{◌≡◌, ◌-◌, ◌∙◌, rules, refl}
 use Rattle.stacks.specs.Changes.{few_words}
 use Rattle.stacks.proofs.Ends.{put_on_lies, put_on_words}
-use Rattle.stacks.proofs.words.Words.put_on.Goals as goal
+use Rattle.stacks.proofs.contents.Words.put_on.Goals as goal
 
 pub invariant_of-self : goal.invariant_of-self
 invariant_of-self c =
