@@ -1,4 +1,4 @@
--- What each kind of operation computes. n1 is the word below the top, n2 the top; f are the flags before it, c and cc the carry and the carry count.
+-- What each kind of operation computes. n1 is the word below the top, n2 the top; f are the flags before it, c is the carry of them.
 use Rattle.std.specs.Prelude.{ℕ, ◌+◌, ◌*◌, ◌%◌, ◌^◌, Bool}
 use Rattle.operations.specs.declared.kinds.Binary.{Binary}
 use Rattle.operations.specs.declared.kinds.Binary.TheVariants.{Or, And, Xor, Add, Sub, Subr, Addc, Subc, Subcr}
@@ -62,9 +62,9 @@ product Pass n1 n2 = pass n1 n2
 product Mul n1 n2 = mul n1 n2
 product Umul n1 n2 = umul n1 n2
 
--- the number fetched; plain and negated leave carry and count, the others accumulate onto d
-abbrev pub fetched : Fetch → ℕ → ℕ → Bool → ℕ → Accumulated
-fetched Plain latch d c cc = record { value = fetch latch; carry = c; count = cc }
-fetched Negated latch d c cc = record { value = fetch_negated latch; carry = c; count = cc }
-fetched Added latch d c cc = fetch_added latch d cc
-fetched Subtracted latch d c cc = fetch_subtracted latch d cc
+-- the number fetched; plain and negated leave carry and count, the others accumulate onto the number before
+abbrev pub fetched : Fetch → ℕ → Accumulated → Accumulated
+fetched Plain latch b = record { value = fetch latch; carry = b.carry; count = b.count }
+fetched Negated latch b = record { value = fetch_negated latch; carry = b.carry; count = b.count }
+fetched Added latch b = fetch_added latch b
+fetched Subtracted latch b = fetch_subtracted latch b

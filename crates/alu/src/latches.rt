@@ -17,22 +17,20 @@ pub fn product(multiply: Multiply, n1: u32, n2: u32) -> u64
     }
 }
 
-// The number fetched, with carry and carry count; an accumulating fetch works on the number d.
-pub fn fetched(fetch: Fetch, latch: u64, d: u64, carry: bool, count: u32) -> Accumulated
-    ensures { result ≡ fetched fetch latch d carry count }
+// The number fetched; an accumulating fetch works on the number before it, and any other leaves its carry and its count.
+pub fn fetched(fetch: Fetch, latch: u64, before: Accumulated) -> Accumulated
+    ensures { result ≡ fetched fetch latch before }
 {
     match fetch {
         Fetch::Plain => Accumulated {
             value: fetches::fetch(latch),
-            carry,
-            count,
+            ..before
         },
         Fetch::Negated => Accumulated {
             value: fetches::fetch_negated(latch),
-            carry,
-            count,
+            ..before
         },
-        Fetch::Added => fetches::fetch_added(latch, d, count),
-        Fetch::Subtracted => fetches::fetch_subtracted(latch, d, count),
+        Fetch::Added => fetches::fetch_added(latch, before),
+        Fetch::Subtracted => fetches::fetch_subtracted(latch, before),
     }
 }

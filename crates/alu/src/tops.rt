@@ -13,7 +13,7 @@ use words::{bits, shifts, sums};
 pub fn append(u: u32, byte: u8) -> u32
     ensures { result ≡ append u byte }
 {
-    (u << 8) + byte as u32
+    (u << 8) + u32::from(byte)
 }
 
 // Whether a condition holds of the top and the flags, as a word.

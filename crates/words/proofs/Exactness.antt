@@ -4,9 +4,9 @@ use Rattle.std.specs.Int.{int_wrap}
 use Rattle.std.proofs.lemmas.Int.{ints, to_z_pos, int_wrap_fits, SFits-int_wrap, wrapping_add-bits, wrapping_sub-bits, int_wrap-add_left}
 use Rattle.std.proofs.lemmas.Bool.Decides.{nat_tests}
 use Rattle.words.specs.Words.{bit, outside, signed}
-use Rattle.words.specs.Sums.{BorrowExact, CarryExact, ExactlyUnlessOverflow, addc, sub, subc}
+use Rattle.words.specs.Sums.{BorrowExact, ExactlyUnlessOverflow, addc, sub, subc}
 
-bit_below : (c : Bool) → bit c < 2
+pub bit_below : (c : Bool) → bit c < 2
 bit_below true = omega arith
 bit_below false = omega arith
 
@@ -41,9 +41,6 @@ module _ (u1 u2 : ℕ) (c : Bool) (h1 : u1 < 2 ^ 32) (h2 : u2 < 2 ^ 32) where
       let b : bit c < 2 ^ 31 = omega (arith, bit_below c) in
       let e : (u1 + (2 ^ 32 - u2) + bit c) % 2 ^ 32 ≡ ((u1 + (2 ^ 32 - u2)) % 2 ^ 32 + bit c) % 2 ^ 32 = omega arith in
       exactly _ _ (ap signed e ∙ one_more ((u1 + (2 ^ 32 - u2)) % 2 ^ 32) (bit c) _ (omega arith) b (wrapping_sub-bits w32 u1 u2 h1 h2))
-
-  pub addc_carries : CarryExact (u1 + u2 + bit c) (addc u1 u2 c)
-  addc_carries = let b = bit_below c in grind (arith, nat_tests)
 
 module _ (u1 u2 : ℕ) (h1 : u1 < 2 ^ 32) (h2 : u2 < 2 ^ 32) where
   pub sub_borrows : BorrowExact u1 u2 (sub u1 u2)

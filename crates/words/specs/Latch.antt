@@ -34,20 +34,20 @@ fetch latch = latch
 abbrev pub fetch_negated : ℕ → ℕ
 fetch_negated latch = (2 ^ 64 - latch) % 2 ^ 64
 
--- d plus the latch: a carry out of 64 bits is counted
-abbrev pub fetch_added : ℕ → ℕ → ℕ → Accumulated
-fetch_added latch d cc = record {
-  value = (d + latch) % 2 ^ 64;
-  carry = nat_le (2 ^ 64) (d + latch);
-  count = (cc + bit (nat_le (2 ^ 64) (d + latch))) % 2 ^ 32;
+-- the number before plus the latch: a carry out of 64 bits is counted
+abbrev pub fetch_added : ℕ → Accumulated → Accumulated
+fetch_added latch b = record {
+  value = (b.value + latch) % 2 ^ 64;
+  carry = nat_le (2 ^ 64) (b.value + latch);
+  count = (b.count + bit (nat_le (2 ^ 64) (b.value + latch))) % 2 ^ 32;
 }
 
--- d minus the latch: the carry is set if nothing was borrowed, else the count falls
-abbrev pub fetch_subtracted : ℕ → ℕ → ℕ → Accumulated
-fetch_subtracted latch d cc = record {
-  value = (d + (2 ^ 64 - latch)) % 2 ^ 64;
-  carry = nat_le latch d;
-  count = (cc + (2 ^ 32 - bit (not (nat_le latch d)))) % 2 ^ 32;
+-- the number before minus the latch: the carry is set if nothing was borrowed, else the count falls
+abbrev pub fetch_subtracted : ℕ → Accumulated → Accumulated
+fetch_subtracted latch b = record {
+  value = (b.value + (2 ^ 64 - latch)) % 2 ^ 64;
+  carry = nat_le latch b.value;
+  count = (b.count + (2 ^ 32 - bit (not (nat_le latch b.value)))) % 2 ^ 32;
 }
 
 -- the carry count and the number below it, as one number of 96 bits
@@ -55,9 +55,9 @@ abbrev pub whole : Accumulated → ℕ
 whole r = r.count * 2 ^ 64 + r.value
 
 -- whatever was added before, the count keeps the sum exact, modulo 2 ^ 96
-abbrev pub SumKept : ℕ → ℕ → ℕ → Accumulated → Type 0
-SumKept latch d cc r = whole r ≡ (cc * 2 ^ 64 + d + latch) % 2 ^ 96
+abbrev pub SumKept : ℕ → Accumulated → Accumulated → Type 0
+SumKept latch b r = whole r ≡ (whole b + latch) % 2 ^ 96
 
 -- to add what was subtracted gives back the number before
-abbrev pub DifferenceKept : ℕ → ℕ → ℕ → Accumulated → Type 0
-DifferenceKept latch d cc r = (whole r + latch) % 2 ^ 96 ≡ cc * 2 ^ 64 + d
+abbrev pub DifferenceKept : ℕ → Accumulated → Accumulated → Type 0
+DifferenceKept latch b r = (whole r + latch) % 2 ^ 96 ≡ whole b

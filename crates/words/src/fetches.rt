@@ -2,7 +2,7 @@
 ghost use Rattle.std.specs.Prelude.{◌≡◌, ◌+◌, ◌%◌, ◌^◌};
 ghost use Rattle.words.specs.Latch.{DifferenceKept, SumKept, fetch, fetch_added, fetch_negated, fetch_subtracted};
 
-// A number of 64 bits as an accumulating fetch leaves it, with the carry and the carry count.
+// A number of 64 bits with the carry and the carry count, as an accumulating fetch leaves it and the next one takes it.
 #[derive(Clone, Copy, PartialEq, Eq, Debug)]
 pub struct Accumulated {
     pub value: u64,
@@ -20,30 +20,30 @@ pub fn fetch_negated(latch: u64) -> u64
     ensures value { result ≡ fetch_negated latch }
     ensures exact { (latch + result) % 2 ^ 64 ≡ 0 }
 {
-    0u64.wrapping_sub(latch)
+    latch.wrapping_neg()
 }
 
-pub fn fetch_added(latch: u64, d: u64, count: u32) -> Accumulated
-    ensures value { result ≡ fetch_added latch d count }
-    ensures kept { SumKept latch d count result }
+// The carry before it does not matter; nor does it in a subtraction.
+pub fn fetch_added(latch: u64, before: Accumulated) -> Accumulated
+    ensures value { result ≡ fetch_added latch before }
+    ensures kept { SumKept latch before result }
 {
-    let value = d.wrapping_add(latch);
-    let carry = value < d;
+    let (value, carry) = before.value.overflowing_add(latch);
     Accumulated {
         value,
         carry,
-        count: if carry { count.wrapping_add(1) } else { count },
+        count: before.count.wrapping_add(u32::from(carry)),
     }
 }
 
-pub fn fetch_subtracted(latch: u64, d: u64, count: u32) -> Accumulated
-    ensures value { result ≡ fetch_subtracted latch d count }
-    ensures kept { DifferenceKept latch d count result }
+pub fn fetch_subtracted(latch: u64, before: Accumulated) -> Accumulated
+    ensures value { result ≡ fetch_subtracted latch before }
+    ensures kept { DifferenceKept latch before result }
 {
-    let carry = d >= latch;
+    let (value, borrowed) = before.value.overflowing_sub(latch);
     Accumulated {
-        value: d.wrapping_sub(latch),
-        carry,
-        count: if carry { count } else { count.wrapping_sub(1) },
+        value,
+        carry: !borrowed,
+        count: before.count.wrapping_sub(u32::from(borrowed)),
     }
 }

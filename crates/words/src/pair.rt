@@ -8,15 +8,21 @@ pub struct Pair {
     pub high: u32,
 }
 
-impl Pair {
-    pub fn number(self) -> u64
-        ensures value { result ≡ number self }
-        ensures back { pair_of result ≡ self }
-    {
-        self.high as u64 * 0x1_0000_0000 + self.low as u64
-    }
+impl From<Pair> for u64 {
+    ghost from_gives = { λ pair d. d ≡ number pair };
 
-    pub fn of(d: u64) -> Pair
+    fn from(pair: Pair) -> u64
+        ensures value { result ≡ number pair }
+        ensures back { pair_of result ≡ pair }
+    {
+        u64::from(pair.high) * 0x1_0000_0000 + u64::from(pair.low)
+    }
+}
+
+impl From<u64> for Pair {
+    ghost from_gives = { λ d pair. pair ≡ pair_of d };
+
+    fn from(d: u64) -> Pair
         ensures value { result ≡ pair_of d }
         ensures back { number result ≡ d }
     {

@@ -11,18 +11,18 @@ pub fn mul(n1: u32, n2: u32) -> u64
     ensures value { result ≡ mul n1 n2 }
     ensures exact { to_z w64 result ≡ signed n1 *ℤ signed n2 }
 {
-    let product = n1.cast_signed() as i64 * n2.cast_signed() as i64;
+    let product = i64::from(n1.cast_signed()) * i64::from(n2.cast_signed());
     product.cast_unsigned()
 }
 
 pub fn umul(u1: u32, u2: u32) -> u64
     ensures { result ≡ umul u1 u2 }
 {
-    u1 as u64 * u2 as u64
+    u64::from(u1) * u64::from(u2)
 }
 
 pub fn pass(dl: u32, dh: u32) -> u64
     ensures { result ≡ pass dl dh }
 {
-    Pair { low: dl, high: dh }.number()
+    u64::from(Pair { low: dl, high: dh })
 }

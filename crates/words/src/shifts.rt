@@ -19,33 +19,31 @@ fn highest(u: u32) -> bool
     u >= 0x8000_0000
 }
 
+// No shift but asl, and no rotation, overflows.
+fn carried(word: u32, carry: bool) -> Flagged
+    ensures { result ≡ record { word = word; flags = record { carry = carry; overflow = false } } }
+{
+    Flagged {
+        word,
+        flags: Flags {
+            carry,
+            overflow: false,
+        },
+    }
+}
+
 fn right(u: u32, h: bool) -> Flagged
     ensures value { result ≡ right u h }
     ensures exact { RightExact u h result }
 {
-    let word = if h { (u >> 1) + 0x8000_0000 } else { u >> 1 };
-    Flagged {
-        word,
-        flags: Flags {
-            carry: lowest(u),
-            overflow: false,
-        },
-    }
+    carried((u >> 1) + (u32::from(h) << 31), lowest(u))
 }
 
 fn left(u: u32, l: bool) -> Flagged
     ensures value { result ≡ left u l }
     ensures exact { CarryExact (u * 2 + bit l) result }
 {
-    let doubled = u.wrapping_add(u);
-    let word = if l { doubled.wrapping_add(1) } else { doubled };
-    Flagged {
-        word,
-        flags: Flags {
-            carry: highest(u),
-            overflow: false,
-        },
-    }
+    carried((u << 1) + u32::from(l), highest(u))
 }
 
 pub fn asr(n: u32) -> Flagged
@@ -62,18 +60,12 @@ pub fn lsr(u: u32) -> Flagged
     right(u, false)
 }
 
-// To the right by one place is to the left by all others.
+#[tactic(auto, using(crate::proofs::Rotations::rotated_right, crate::proofs::Rotations::right_back))]
 pub fn ror(u: u32) -> Flagged
     ensures value { result ≡ ror u }
     ensures back { (rol result.word).word ≡ u }
 {
-    Flagged {
-        word: u.rotate_left(31),
-        flags: Flags {
-            carry: lowest(u),
-            overflow: false,
-        },
-    }
+    carried(u.rotate_right(1), lowest(u))
 }
 
 pub fn rorc(u: u32, c: bool) -> Flagged
@@ -88,12 +80,12 @@ pub fn asl(n: u32) -> Flagged
     ensures value { result ≡ asl n }
     ensures exact { ExactlyUnlessOverflow (signed n +ℤ signed n) result }
 {
-    let word = n.wrapping_add(n);
+    let Flagged { word, flags } = lsl(n);
     Flagged {
         word,
         flags: Flags {
-            carry: highest(n),
             overflow: highest(n) != highest(word),
+            ..flags
         },
     }
 }
@@ -105,17 +97,12 @@ pub fn lsl(u: u32) -> Flagged
     left(u, false)
 }
 
+#[tactic(auto, using(crate::proofs::Rotations::rotated_left, crate::proofs::Rotations::left_back))]
 pub fn rol(u: u32) -> Flagged
     ensures value { result ≡ rol u }
     ensures back { (ror result.word).word ≡ u }
 {
-    Flagged {
-        word: u.rotate_left(1),
-        flags: Flags {
-            carry: highest(u),
-            overflow: false,
-        },
-    }
+    carried(u.rotate_left(1), highest(u))
 }
 
 pub fn rolc(u: u32, c: bool) -> Flagged

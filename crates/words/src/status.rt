@@ -73,5 +73,5 @@ impl Condition {
 pub fn flag_word(flag: bool) -> u32
     ensures { result ≡ flag_word flag }
 {
-    if flag { 0xFFFF_FFFF } else { 0 }
+    if flag { u32::MAX } else { 0 }
 }

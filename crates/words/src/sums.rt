@@ -11,34 +11,14 @@ use crate::flags::Flags;
 fn signed_word(u: u32) -> i64
     ensures { result ≡ signed u }
 {
-    u.cast_signed() as i64
+    i64::from(u.cast_signed())
 }
 
-// A flag as a number.
-fn one_if(c: bool) -> u32
-    ensures { result ≡ bit c }
-{
-    if c { 1 } else { 0 }
-}
-
+// Whether no word, read as signed, is z.
 fn is_outside(z: i64) -> bool
     ensures { result ≡ outside z }
 {
-    z < -0x8000_0000 || z >= 0x8000_0000
-}
-
-// The exact signed sum.
-fn sum(n1: u32, n2: u32, c: bool) -> i64
-    ensures { result ≡ signed n1 +ℤ signed n2 +ℤ pos (bit c) }
-{
-    signed_word(n1) + signed_word(n2) + one_if(c) as i64
-}
-
-// The exact signed difference.
-fn difference(n1: u32, n2: u32, c: bool) -> i64
-    ensures { result ≡ signed n1 -ℤ signed n2 +ℤ pos (bit c) }
-{
-    signed_word(n1) - signed_word(n2) + one_if(c) as i64
+    i32::try_from(z).is_err()
 }
 
 pub fn addc(n1: u32, n2: u32, c: bool) -> Flagged
@@ -46,12 +26,13 @@ pub fn addc(n1: u32, n2: u32, c: bool) -> Flagged
     ensures carries { CarryExact (n1 + n2 + bit c) result }
     ensures exact { ExactlyUnlessOverflow (signed n1 +ℤ signed n2 +ℤ pos (bit c)) result }
 {
-    let more = one_if(c);
+    let (word, carry) = n1.carrying_add(n2, c);
+    let sum = signed_word(n1) + signed_word(n2) + i64::from(c);
     Flagged {
-        word: n1.wrapping_add(n2).wrapping_add(more),
+        word,
         flags: Flags {
-            carry: n1 as u64 + n2 as u64 + more as u64 >= 0x1_0000_0000,
-            overflow: is_outside(sum(n1, n2, c)),
+            carry,
+            overflow: is_outside(sum),
         },
     }
 }
@@ -60,12 +41,12 @@ pub fn subc(n1: u32, n2: u32, c: bool) -> Flagged
     ensures value { result ≡ subc n1 n2 c }
     ensures exact { ExactlyUnlessOverflow (signed n1 -ℤ signed n2 +ℤ pos (bit c)) result }
 {
-    let more = one_if(c);
+    let difference = signed_word(n1) - signed_word(n2) + i64::from(c);
     Flagged {
-        word: n1.wrapping_sub(n2).wrapping_add(more),
+        word: n1.wrapping_sub(n2).wrapping_add(u32::from(c)),
         flags: Flags {
-            carry: n1 as u64 + more as u64 >= n2 as u64,
-            overflow: is_outside(difference(n1, n2, c)),
+            carry: u64::from(n1) + u64::from(c) >= u64::from(n2),
+            overflow: is_outside(difference),
         },
     }
 }
@@ -85,6 +66,7 @@ pub fn add(n1: u32, n2: u32) -> Flagged
     addc(n1, n2, false)
 }
 
+#[tactic(auto, using(crate::proofs::Exactness::sub_borrows, crate::proofs::Comparing::compares))]
 pub fn sub(n1: u32, n2: u32) -> Flagged
     ensures value { result ≡ sub n1 n2 }
     ensures borrows { BorrowExact n1 n2 result }

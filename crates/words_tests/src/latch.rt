@@ -34,14 +34,13 @@ fn multiplied(rt: HostRuntime) {
 fn in_two_words(rt: HostRuntime) {
     assert_eq!(rt; pass(1, 2), 0x2_0000_0001);
     assert_eq!(rt;
-        Pair {
+        u64::from(Pair {
             low: 0xFFFF_FFFA,
             high: 0xFFFF_FFFF,
-        }
-        .number(),
+        }),
         0xFFFF_FFFF_FFFF_FFFA
     );
-    assert_eq!(rt; Pair::of(0x2_0000_0001), Pair { low: 1, high: 2 });
+    assert_eq!(rt; Pair::from(0x2_0000_0001), Pair { low: 1, high: 2 });
 }
 
 #[test]
@@ -57,6 +56,15 @@ fn fetched(rt: HostRuntime) {
     }
 }
 
+// A number with its carry count; the carry before an accumulating fetch does not matter.
+fn counted(value: u64, count: u32) -> Accumulated {
+    Accumulated {
+        value,
+        carry: false,
+        count,
+    }
+}
+
 // The latch, the number, the count; then the number, the carry and the count.
 #[test]
 fn accumulated(rt: HostRuntime) {
@@ -68,7 +76,7 @@ fn accumulated(rt: HostRuntime) {
     ];
     for (latch, d, before, value, carry, count) in added {
         assert_eq!(rt;
-            fetch_added(latch, d, before),
+            fetch_added(latch, counted(d, before)),
             Accumulated {
                 value,
                 carry,
@@ -84,7 +92,7 @@ fn accumulated(rt: HostRuntime) {
     ];
     for (latch, d, before, value, carry, count) in subtracted {
         assert_eq!(rt;
-            fetch_subtracted(latch, d, before),
+            fetch_subtracted(latch, counted(d, before)),
             Accumulated {
                 value,
                 carry,

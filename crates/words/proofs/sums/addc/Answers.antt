@@ -1,21 +1,19 @@
-use Rattle.std.proofs.Common.{◌≡◌, ◌+◌, ◌%◌, ◌^◌, pos, ◌+ℤ◌, sym, ap, ◌∙◌, arith, w64, to_z, of_z}
+use Rattle.std.proofs.Common.{◌≡◌, pos, ◌+ℤ◌, sym, ap, ◌∙◌, subst, arith, w64, to_z, of_z}
 use Rattle.std.proofs.lemmas.Int.{ints}
-use Rattle.words.specs.Sums.{addc}
+use Rattle.std.proofs.lemmas.Bool.Decides.{nat_tests}
+use Rattle.words.specs.Sums.{ExactlyUnlessOverflow, addc}
 use Rattle.words.specs.Words.{bit, outside, signed}
-use Rattle.words.proofs.Exactness.{addc_carries, addc_exact}
+use Rattle.words.proofs.Exactness.{addc_exact, bit_below}
 use Rattle.words.proofs.sums.addc.Goals as goal
 
-pub returns : goal.returns
-returns c =
-    let n1 = c.args.n1 in
-    let n2 = c.args.n2 in
-    let w : ((n1 + n2) % 2 ^ 32 + c.one_if-more.result) % 2 ^ 32 ≡ (addc n1 n2 c.args.c).word = omega arith in
-    let z : to_z w64 (of_z w64 c.sum.result) ≡ signed n1 +ℤ signed n2 +ℤ pos (bit c.args.c) = omega (arith, ints) in
-    let o : c.is_outside.result ≡ (addc n1 n2 c.args.c).flags.overflow = c.is_outside.ensures ∙ ap outside z in
-    let k = addc_carries n1 n2 c.args.c (omega arith) (omega arith) in
-    let x = addc_exact n1 n2 c.args.c (omega arith) (omega arith) in
-    record {
-      value = cc;
-      carries = cc;
-      exact = ((λ h. ap signed w ∙ x.0 (sym o ∙ h)), (λ h. o ∙ x.1 (sym (ap signed w) ∙ h)));
-    }
+pub returns-clause-value : goal.returns-clause-value
+returns-clause-value c =
+    let z : to_z w64 (of_z w64 (to_z w64 (of_z w64 (to_z w64 (of_z w64 c.signed_word.result) +ℤ to_z w64 (of_z w64 c.signed_word-2.result))) +ℤ to_z w64 (of_z w64 c.from.result))) ≡ signed c.args.n1 +ℤ signed c.args.n2 +ℤ pos (bit c.args.c) = omega (arith, ints, bit_below c.args.c) in
+    let o : c.is_outside.result ≡ (addc c.args.n1 c.args.n2 c.args.c).flags.overflow = c.is_outside.ensures ∙ ap outside z in
+    let w : c.carrying_add-word.result.0 ≡ (addc c.args.n1 c.args.n2 c.args.c).word = grind (arith, nat_tests) in
+    let k : c.carrying_add-word.result.1 ≡ (addc c.args.n1 c.args.n2 c.args.c).flags.carry = grind (arith, nat_tests) in
+    λ i. record { word = w i; flags = record { carry = k i; overflow = o i } }
+
+pub returns-clause-exact : goal.returns-clause-exact
+returns-clause-exact c =
+    subst (ExactlyUnlessOverflow (signed c.args.n1 +ℤ signed c.args.n2 +ℤ pos (bit c.args.c))) (sym (returns-clause-value c)) (addc_exact c.args.n1 c.args.n2 c.args.c (omega arith) (omega arith))
