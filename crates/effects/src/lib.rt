@@ -1,6 +1,6 @@
 //! What an operand does to a stack before its operation, read without changing the stack.
 #![tactic(auto)]
 
-mod others;
 pub mod picks;
+pub mod reach;
 pub mod twos;

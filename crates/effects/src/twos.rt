@@ -4,49 +4,50 @@ ghost use Rattle.effects.specs.Copies.{Copies};
 ghost use Rattle.effects.specs.Operands.{effect, moved, top_two, top_two_of, words_of};
 ghost use Rattle.effects.specs.Reading.{read_two, under_words};
 ghost use Rattle.stacks.specs.Changes.{few_words};
-ghost use Rattle.stacks.specs.Words.{words_in};
 
-use super::others::other_word;
+use super::reach::Reach;
 use operations::operands::Operand;
 use operations::places::Near;
 use stacks::changes::Few;
-use stacks::stack::Stack;
-use stacks::words::Words;
+use stacks::contents::Words;
 
-// Words that stay below an operation's two though they lay above one of them.
-#[derive(Clone, Copy)]
+// Words that stay below an operation's two though they lay above one of them. They are two at most, so that a word on
+// top of them is always a few: a `Few` in their place would not tell.
+#[derive(Clone, Copy, Debug, PartialEq, Eq)]
 pub enum Under {
     Nothing,
     One(u32),
     Two(u32, u32),
 }
 
-impl Under {
+impl From<Under> for Few {
+    ghost from_gives = { λ under few. few_words few ≡ under_words under };
+
     // They alone.
-    pub fn few(self) -> Few
-        ensures { few_words result ≡ under_words self }
-    {
-        match self {
+    fn from(under: Under) -> Few {
+        match under {
             Under::Nothing => Few::Zero,
-            Under::One(a) => Few::One(a),
-            Under::Two(a, b) => Few::Two(a, b),
+            Under::One(a) => Few::One([a]),
+            Under::Two(a, b) => Few::Two([a, b]),
         }
     }
+}
 
+impl Under {
     // A word on top of them.
     pub fn with(self, top: u32) -> Few
         ensures { few_words result ≡ top ∷ under_words self }
     {
         match self {
-            Under::Nothing => Few::One(top),
-            Under::One(a) => Few::Two(top, a),
-            Under::Two(a, b) => Few::Three(top, a, b),
+            Under::Nothing => Few::One([top]),
+            Under::One(a) => Few::Two([top, a]),
+            Under::Two(a, b) => Few::Three([top, a, b]),
         }
     }
 }
 
 // n1 and n2, and the rest: `under`, and then all but the first `off` words.
-#[derive(Clone, Copy)]
+#[derive(Clone, Copy, Debug, PartialEq, Eq)]
 pub struct Two {
     pub n1: u32,
     pub n2: u32,
@@ -56,61 +57,40 @@ pub struct Two {
 
 // The top, below a word from elsewhere.
 fn below(own: &Words, n2: u32) -> Option<Two>
-    ensures { read_two result (words_in own.now) ≡ top_two (n2 ∷ words_in own.now) }
+    ensures { read_two result own.now ≡ top_two (n2 ∷ own.now) }
 {
-    if own.depth() > 0 {
-        Some(Two {
-            n1: own.word(0),
-            n2,
-            off: 1,
-            under: Under::Nothing,
-        })
-    } else {
-        None
-    }
+    own.get(0).map(|n1| Two {
+        n1,
+        n2,
+        off: 1,
+        under: Under::Nothing,
+    })
 }
 
 fn moved_two(own: &Words, near: Near) -> Option<Two>
-    ensures { read_two result (words_in own.now) ≡ top_two_of (moved near (words_in own.now)) }
+    ensures { read_two result own.now ≡ top_two_of (moved near own.now) }
 {
-    let depth = own.depth();
-    match near {
-        Near::S0 if depth > 1 => Some(Two {
-            n1: own.word(1),
-            n2: own.word(0),
-            off: 2,
-            under: Under::Nothing,
-        }),
-        Near::S1 if depth > 1 => Some(Two {
-            n1: own.word(0),
-            n2: own.word(1),
-            off: 2,
-            under: Under::Nothing,
-        }),
-        Near::S2 if depth > 2 => Some(Two {
-            n1: own.word(0),
-            n2: own.word(2),
-            off: 3,
-            under: Under::One(own.word(1)),
-        }),
-        Near::S3 if depth > 3 => Some(Two {
-            n1: own.word(0),
-            n2: own.word(3),
-            off: 4,
-            under: Under::Two(own.word(1), own.word(2)),
-        }),
-        _ => None,
-    }
+    let (n1, n2, off, under) = match (near, own.as_slice()) {
+        (Near::S0, &[n2, n1, ..]) => (n1, n2, 2, Under::Nothing),
+        (Near::S1, &[n1, n2, ..]) => (n1, n2, 2, Under::Nothing),
+        (Near::S2, &[n1, a, n2, ..]) => (n1, n2, 3, Under::One(a)),
+        (Near::S3, &[n1, a, b, n2, ..]) => (n1, n2, 4, Under::Two(a, b)),
+        _ => return None,
+    };
+    Some(Two { n1, n2, off, under })
 }
 
-pub fn operand_two(operand: Operand, stacks: &[Stack; 4], own: &Words) -> Option<Two>
-    ensures value { read_two result (words_in own.now) ≡ top_two_of (effect operand (words_in own.now) (words_of stacks.now)) }
-    ensures copies { Copies }
-{
-    match operand {
-        Operand::Own(place) => below(own, own.get(place.number() as usize)?),
-        Operand::Moved(near) => moved_two(own, near),
-        Operand::Other(stack, near) => below(own, other_word(stacks, stack, near)?),
-        Operand::Constant(constant) => below(own, constant.word()),
+impl Reach<'_> {
+    pub fn operand_two(&self, operand: Operand) -> Option<Two>
+        ensures value { read_two result self.now.own.now ≡ top_two_of (effect operand self.now.own.now (words_of self.now.stacks.now)) }
+        ensures copies { Copies }
+    {
+        let n2 = match operand {
+            Operand::Own(place) => self.own.get(place.number() as usize)?,
+            Operand::Other(stack, near) => self.other_word(stack, near)?,
+            Operand::Constant(constant) => constant.word(),
+            Operand::Moved(near) => return moved_two(self.own, near),
+        };
+        below(self.own, n2)
     }
 }

@@ -1,8 +1,10 @@
--- What an operation leaves, if there were words enough for it.
-use Rattle.drafts.specs.Shown.{Shown}
+-- What an operation leaves of its stack.
+use Rattle.drafts.specs.Shown.{Shown, shown}
+use Rattle.drafts.specs.declared.draft.Draft.{Draft}
+use Rattle.stacks.specs.declared.stack.Stack.{Stack}
 use Rattle.std.specs.Prelude.{Some, None, Option}
 
--- the answer says whether there were, the draft what is left
-abbrev pub left : Option (Unit {0}) → Shown → Option Shown
-left None s = None
-left (Some _) s = Some s
+-- what its draft shows; no draft says that words lack
+abbrev pub left : Option Draft → Stack → Option Shown
+left None h = None
+left (Some draft) h = Some (shown draft h)

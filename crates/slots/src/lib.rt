@@ -4,6 +4,7 @@
 pub mod latches;
 mod places;
 mod registers;
+mod slot;
 mod tops;
 mod twos;
 pub mod work;

@@ -1,12 +1,10 @@
 // Operations that fetch or store a register: the instruction pointer, the carry count, the latch.
 ghost use Rattle.std.specs.Prelude.{◌≡◌, drop};
-ghost use Rattle.effects.specs.Operands.{top_two};
 ghost use Rattle.slots.specs.Left.{left};
 ghost use Rattle.drafts.specs.Shown.{shown};
-ghost use Rattle.slots.specs.Slots.{accumulating, counting, fetching, jumping, paired, special};
-ghost use Rattle.stacks.specs.Held.{held};
-ghost use Rattle.stacks.specs.Words.{words_in};
+ghost use Rattle.slots.specs.Slots.{counting, fetching, jumping, paired, special};
 
+use super::slot::Slot;
 use super::tops::push;
 use alu::latches::fetched;
 use drafts::draft::Draft;
@@ -14,103 +12,76 @@ use operations::kinds::{Fetch, Special};
 use stacks::changes::{Change, Few};
 use stacks::stack::Stack;
 use words::fetches::Accumulated;
+use words::flags::Flags;
 use words::pair::Pair;
 
-fn store_ip(own: &Stack, draft: &mut Draft) -> Option<()>
-    ensures { left result (shown draft.new (held own.now)) ≡ jumping (held own.now) (words_in own.now.words) }
+fn store_ip(own: &Stack) -> Option<Draft>
+    ensures { left result own.now ≡ jumping own.now own.now.words }
 {
     let top = own.words.get(0)?;
-    *draft = Draft {
-        change: Change::Replace(1, Few::Zero),
-        carry: own.carry,
-        overflow: own.overflow,
-        count: own.count,
-        write: None,
+    Some(Draft {
         target: Some(top / 8 * 8),
-        paired: false,
-        fault: None,
-    };
-    Some(())
+        ..Draft::changed(own, Change::Replace(1, Few::Zero))
+    })
 }
 
-fn store_count(own: &Stack, draft: &mut Draft) -> Option<()>
-    ensures { left result (shown draft.new (held own.now)) ≡ counting (held own.now) (words_in own.now.words) }
+fn store_count(own: &Stack) -> Option<Draft>
+    ensures { left result own.now ≡ counting own.now own.now.words }
 {
     let top = own.words.get(0)?;
-    *draft = Draft {
-        change: Change::Replace(1, Few::Zero),
-        carry: own.carry,
-        overflow: own.overflow,
+    Some(Draft {
         count: top,
-        write: None,
-        target: None,
-        paired: false,
-        fault: None,
-    };
-    Some(())
-}
-
-pub fn access(kind: Special, own: &Stack, next: u32, draft: &mut Draft) -> Option<()>
-    ensures { left result (shown draft.new (held own.now)) ≡ special kind (held own.now) next }
-{
-    match kind {
-        Special::FetchIp => push(own, next, draft),
-        Special::StoreIp => store_ip(own, draft)?,
-        Special::FetchCount => push(own, own.count, draft),
-        Special::StoreCount => store_count(own, draft)?,
-    }
-    Some(())
+        ..Draft::changed(own, Change::Replace(1, Few::Zero))
+    })
 }
 
 // A number of 64 bits in the place of the first `off` words, its high word on top.
-fn put_pair(own: &Stack, off: usize, number: Accumulated, draft: &mut Draft)
-    ensures { shown draft.new (held own.now) ≡ paired (held own.now) (drop off (words_in own.now.words)) number }
+fn put_pair(own: &Stack, off: usize, number: Accumulated) -> Draft
+    ensures { shown result own.now ≡ paired own.now (drop off own.now.words) number }
 {
-    let pair = Pair::of(number.value);
-    *draft = Draft {
-        change: Change::Replace(off, Few::Two(pair.high, pair.low)),
-        carry: number.carry,
-        overflow: own.overflow,
+    let pair = Pair::from(number.value);
+    Draft {
+        flags: Flags {
+            carry: number.carry,
+            ..own.flags
+        },
         count: number.count,
-        write: None,
-        target: None,
         paired: true,
-        fault: None,
-    };
-}
-
-fn accumulate(fetch: Fetch, own: &Stack, latch: u64, draft: &mut Draft) -> Option<()>
-    ensures { left result (shown draft.new (held own.now)) ≡ accumulating fetch (held own.now) latch (top_two (words_in own.now.words)) }
-{
-    if own.words.depth() < 2 {
-        return None;
+        ..Draft::changed(own, Change::Replace(off, Few::Two([pair.high, pair.low])))
     }
-    let pair = Pair {
-        low: own.words.word(1),
-        high: own.words.word(0),
-    };
-    put_pair(
-        own,
-        2,
-        fetched(fetch, latch, pair.number(), own.carry, own.count),
-        draft,
-    );
-    Some(())
 }
 
-pub fn fetch_latch(fetch: Fetch, own: &Stack, latch: u64, draft: &mut Draft) -> Option<()>
-    ensures { left result (shown draft.new (held own.now)) ≡ fetching fetch (held own.now) latch }
-{
-    match fetch {
-        Fetch::Plain | Fetch::Negated => {
-            put_pair(
-                own,
-                0,
-                fetched(fetch, latch, 0, own.carry, own.count),
-                draft,
-            );
-            Some(())
+impl Slot<'_> {
+    pub fn access(&self, kind: Special) -> Option<Draft>
+        ensures { left result self.now.own.now ≡ special kind self.now.own.now self.now.next }
+    {
+        match kind {
+            Special::FetchIp => Some(push(self.own, self.next)),
+            Special::StoreIp => store_ip(self.own),
+            Special::FetchCount => Some(push(self.own, self.own.count)),
+            Special::StoreCount => store_count(self.own),
         }
-        Fetch::Added | Fetch::Subtracted => accumulate(fetch, own, latch, draft),
+    }
+
+    pub fn fetch_latch(&self, fetch: Fetch) -> Option<Draft>
+        ensures { left result self.now.own.now ≡ fetching fetch self.now.own.now self.now.latch }
+    {
+        let own = self.own;
+        let (off, value) = match fetch {
+            Fetch::Plain | Fetch::Negated => (0, 0),
+            Fetch::Added | Fetch::Subtracted => {
+                let pair = Pair {
+                    high: own.words.get(0)?,
+                    low: own.words.get(1)?,
+                };
+                (2, u64::from(pair))
+            }
+        };
+        let before = Accumulated {
+            value,
+            carry: own.flags.carry,
+            count: own.count,
+        };
+        Some(put_pair(own, off, fetched(fetch, self.latch, before)))
     }
 }

@@ -4,9 +4,6 @@ ghost use Rattle.slots.specs.Left.{left};
 ghost use Rattle.effects.specs.Reading.{under_words};
 ghost use Rattle.drafts.specs.Shown.{flagged, plain, shown};
 ghost use Rattle.slots.specs.Slots.{appending, flagging, scanning, shifting};
-ghost use Rattle.stacks.specs.Changes.{changed};
-ghost use Rattle.stacks.specs.Held.{held};
-ghost use Rattle.stacks.specs.Words.{words_in};
 
 use alu::tops::{append, flag_of, scanned, shifted};
 use drafts::draft::Draft;
@@ -17,79 +14,54 @@ use stacks::stack::Stack;
 use words::condition::Condition;
 use words::flagged::Flagged;
 
-// A change to the words and nothing else.
-pub fn keep(own: &Stack, change: Change, draft: &mut Draft)
-    ensures { shown draft.new (held own.now) ≡ plain (held own.now) (changed change (words_in own.now.words)) }
-{
-    *draft = Draft {
-        change,
-        carry: own.carry,
-        overflow: own.overflow,
-        count: own.count,
-        write: None,
-        target: None,
-        paired: false,
-        fault: None,
-    };
-}
-
 // A word with its flags in the place of the first `off` words, above those that stay.
-pub fn put_flagged(own: &Stack, off: usize, under: Under, word: Flagged, draft: &mut Draft)
-    ensures { shown draft.new (held own.now) ≡ flagged (held own.now) word (under_words under ++ drop off (words_in own.now.words)) }
+pub fn put_flagged(own: &Stack, off: usize, under: Under, word: Flagged) -> Draft
+    ensures { shown result own.now ≡ flagged own.now word (under_words under ++ drop off own.now.words) }
 {
-    *draft = Draft {
-        change: Change::Replace(off, under.with(word.word)),
-        carry: word.carry,
-        overflow: word.overflow,
-        count: own.count,
-        write: None,
-        target: None,
-        paired: false,
-        fault: None,
-    };
+    Draft {
+        flags: word.flags,
+        ..Draft::changed(own, Change::Replace(off, under.with(word.word)))
+    }
 }
 
-pub fn push(own: &Stack, word: u32, draft: &mut Draft)
-    ensures { shown draft.new (held own.now) ≡ plain (held own.now) (word ∷ words_in own.now.words) }
+pub fn push(own: &Stack, word: u32) -> Draft
+    ensures { shown result own.now ≡ plain own.now (word ∷ own.now.words) }
 {
-    keep(own, Change::Replace(0, Few::One(word)), draft)
+    Draft::changed(own, Change::Replace(0, Few::One([word])))
 }
 
-pub fn append_byte(byte: u8, own: &Stack, draft: &mut Draft) -> Option<()>
-    ensures { left result (shown draft.new (held own.now)) ≡ appending byte (held own.now) (words_in own.now.words) }
+// A word in the place of the top.
+fn replace_top(own: &Stack, word: u32) -> Draft
+    ensures { shown result own.now ≡ plain own.now (word ∷ drop 1 own.now.words) }
+{
+    Draft::changed(own, Change::Replace(1, Few::One([word])))
+}
+
+pub fn append_byte(own: &Stack, byte: u8) -> Option<Draft>
+    ensures { left result own.now ≡ appending byte own.now own.now.words }
 {
     let top = own.words.get(0)?;
-    keep(own, Change::Replace(1, Few::One(append(top, byte))), draft);
-    Some(())
+    Some(replace_top(own, append(top, byte)))
 }
 
-pub fn flag(condition: Condition, own: &Stack, draft: &mut Draft) -> Option<()>
-    ensures { left result (shown draft.new (held own.now)) ≡ flagging condition (held own.now) (words_in own.now.words) }
+pub fn flag(own: &Stack, condition: Condition) -> Option<Draft>
+    ensures { left result own.now ≡ flagging condition own.now own.now.words }
 {
     let top = own.words.get(0)?;
-    let word = flag_of(condition, top, own.carry, own.overflow);
-    keep(own, Change::Replace(1, Few::One(word)), draft);
-    Some(())
+    Some(replace_top(own, flag_of(condition, top, own.flags)))
 }
 
-pub fn shift_top(shift: Shift, own: &Stack, draft: &mut Draft) -> Option<()>
-    ensures { left result (shown draft.new (held own.now)) ≡ shifting shift (held own.now) (words_in own.now.words) }
+pub fn scan_top(own: &Stack, scan: Scan) -> Option<Draft>
+    ensures { left result own.now ≡ scanning scan own.now own.now.words }
 {
     let top = own.words.get(0)?;
-    put_flagged(
-        own,
-        1,
-        Under::Nothing,
-        shifted(shift, top, own.carry),
-        draft,
-    );
-    Some(())
+    Some(replace_top(own, scanned(scan, top)))
 }
 
-pub fn scan_top(scan: Scan, own: &Stack, draft: &mut Draft) -> Option<()>
-    ensures { left result (shown draft.new (held own.now)) ≡ scanning scan (held own.now) (words_in own.now.words) }
+pub fn shift_top(own: &Stack, shift: Shift) -> Option<Draft>
+    ensures { left result own.now ≡ shifting shift own.now own.now.words }
 {
     let top = own.words.get(0)?;
-    keep(own, Change::Replace(1, Few::One(scanned(scan, top))), draft);
-    Some(())
+    let word = shifted(shift, top, own.flags.carry);
+    Some(put_flagged(own, 1, Under::Nothing, word))
 }

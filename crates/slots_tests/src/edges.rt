@@ -123,7 +123,7 @@ fn skips(rt: HostRuntime) {
     let mut own = stack_of(&[], (true, false));
     own.skips = true;
     let draft = drafted(Operation::Fetch(Fetch::Added), &beside(own));
-    assert!(rt; draft.fault.is_none() && !draft.paired && draft.carry);
+    assert!(rt; draft.fault.is_none() && !draft.paired && draft.flags.carry);
     assert_eq!(rt; draft.depth(&own), 0);
     let draft = drafted(Operation::Push(1), &beside(own));
     assert_eq!(rt; draft.depth(&own), 0);

@@ -1,6 +1,5 @@
 use crate::rows::{LOW, Row, beside, drafted, leaves, makes, stack_of};
 use alu::latches::product;
-use drafts::draft::Draft;
 use operations::kinds::{Fetch, Multiply};
 use operations::operands::Operand;
 use operations::operation::Operation;
@@ -47,7 +46,7 @@ fn fetches(rt: HostRuntime) {
     );
     let stacks = beside(stack_of(&[], (true, true)));
     let draft = drafted(Operation::Fetch(Fetch::Plain), &stacks);
-    assert!(rt; draft.paired && draft.carry && draft.overflow && draft.count == 9);
+    assert!(rt; draft.paired && draft.flags.carry && draft.flags.overflow && draft.count == 9);
 }
 
 // The number on top is 2 ^ 64 − 1 and then 3: the sum carries, the difference borrows.
@@ -87,32 +86,11 @@ fn accumulates(rt: HostRuntime) {
 fn halves(rt: HostRuntime) {
     let stacks = beside(stack_of(&[], (false, false)));
     let latches = Latches { low: LOW, high: 7 };
-    let mut draft = Draft::untouched(&stacks[0]);
-    work(
-        Operation::Fetch(Fetch::Plain),
-        &stacks,
-        StackNumber::One,
-        latches,
-        0,
-        &mut draft,
+    let fetched = |number| work(Operation::Fetch(Fetch::Plain), &stacks, number, latches, 0);
+    assert_eq!(rt;
+        fetched(StackNumber::One).word(&stacks[1], 1),
+        Some(0x8000_0001)
     );
-    assert_eq!(rt; draft.word(&stacks[1], 1), Some(0x8000_0001));
-    work(
-        Operation::Fetch(Fetch::Plain),
-        &stacks,
-        StackNumber::Two,
-        latches,
-        0,
-        &mut draft,
-    );
-    assert_eq!(rt; draft.word(&stacks[2], 1), Some(7));
-    work(
-        Operation::Fetch(Fetch::Plain),
-        &stacks,
-        StackNumber::Three,
-        latches,
-        0,
-        &mut draft,
-    );
-    assert_eq!(rt; draft.word(&stacks[3], 1), Some(7));
+    assert_eq!(rt; fetched(StackNumber::Two).word(&stacks[2], 1), Some(7));
+    assert_eq!(rt; fetched(StackNumber::Three).word(&stacks[3], 1), Some(7));
 }

@@ -8,6 +8,7 @@ use stacks::changes::{Change, Few};
 use stacks::stack::Stack;
 use std::process::Abort;
 use std::test::Fail;
+use words::flags::Flags;
 
 // The words of the other stacks, the latches and the next address are the same for every row.
 pub const LOW: u64 = 0x0000_0003_8000_0001;
@@ -24,13 +25,16 @@ pub struct Row<'a> {
     pub left: (bool, bool),
 }
 
+fn flags_of((carry, overflow): (bool, bool)) -> Flags {
+    Flags { carry, overflow }
+}
+
 pub fn stack_of(words: &[u32], flags: (bool, bool)) -> Stack {
     let mut stack = Stack::new();
     for word in words {
-        stack.words.settle(Change::Replace(0, Few::One(*word)));
+        stack.words.settle(Change::Replace(0, Few::One([*word])));
     }
-    stack.carry = flags.0;
-    stack.overflow = flags.1;
+    stack.flags = flags_of(flags);
     stack.count = 9;
     stack
 }
@@ -38,7 +42,7 @@ pub fn stack_of(words: &[u32], flags: (bool, bool)) -> Stack {
 pub fn filled(depth: usize) -> Stack {
     let mut stack = Stack::new();
     for _ in 0..depth {
-        stack.words.settle(Change::Replace(0, Few::One(5)));
+        stack.words.settle(Change::Replace(0, Few::One([5])));
     }
     stack
 }
@@ -55,20 +59,11 @@ pub fn beside(own: Stack) -> [Stack; 4] {
 }
 
 pub fn drafted(operation: Operation, stacks: &[Stack; 4]) -> Draft {
-    let mut draft = Draft::untouched(&stacks[0]);
     let latches = Latches {
         low: LOW,
         high: HIGH,
     };
-    work(
-        operation,
-        stacks,
-        StackNumber::Zero,
-        latches,
-        NEXT,
-        &mut draft,
-    );
-    draft
+    work(operation, stacks, StackNumber::Zero, latches, NEXT)
 }
 
 fn check_words(rt: &impl Abort, stack: &Stack, words: &[u32]) {
@@ -88,7 +83,7 @@ pub fn leaves(rt: &impl Abort, operation: Operation, row: Row) {
     assert_eq!(rt; draft.word(&own, 0), row.after.last().copied());
     draft.settle(&mut own);
     check_words(rt, &own, row.after);
-    assert_eq!(rt; (own.carry, own.overflow), row.left);
+    assert_eq!(rt; own.flags, flags_of(row.left));
 }
 
 // A word below, which stays, and flags that stay.
@@ -117,9 +112,7 @@ pub fn faults(rt: &impl Abort, operation: Operation, own: Stack, number: u16) ->
     assert_eq!(rt; draft.depth(&own), own.words.depth());
     assert_eq!(rt; draft.word(&own, 0), own.words.get(0));
     assert!(rt; draft.write.is_none() && draft.target.is_none() && !draft.paired);
-    assert!(rt;
-        draft.carry == own.carry && draft.overflow == own.overflow && draft.count == own.count
-    );
+    assert!(rt; draft.flags == own.flags && draft.count == own.count);
     Ok(())
 }
 

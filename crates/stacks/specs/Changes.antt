@@ -8,10 +8,10 @@ use Rattle.stacks.specs.declared.changes.Few.TheVariants.{Zero, One, Two, Three,
 -- a few words
 abbrev pub few_words : Few → List ℕ
 few_words Zero = []
-few_words (One a) = a ∷ []
-few_words (Two a b) = a ∷ b ∷ []
-few_words (Three a b c) = a ∷ b ∷ c ∷ []
-few_words (Four a b c d) = a ∷ b ∷ c ∷ d ∷ []
+few_words (One xs) = xs
+few_words (Two xs) = xs
+few_words (Three xs) = xs
+few_words (Four xs) = xs
 
 -- the top goes to place k, in the place of the word there; at place 0 it is only gone
 abbrev pub pinned : ℕ → List ℕ → List ℕ

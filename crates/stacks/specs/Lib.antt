@@ -1,4 +1,5 @@
 pub mod Words
+pub mod WordsAgain
 pub mod Changes
 pub mod Pins
-pub mod Held
+pub mod Stacks

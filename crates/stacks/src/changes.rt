@@ -4,16 +4,16 @@ ghost use Rattle.stacks.specs.Changes.{few_words};
 ghost use Rattle.std.specs.List.{slice_get};
 
 // Words that go on, the top first.
-#[derive(Clone, Copy)]
+#[derive(Clone, Copy, Debug, PartialEq, Eq)]
 pub enum Few {
     Zero,
-    One(u32),
-    Two(u32, u32),
-    Three(u32, u32, u32),
-    Four(u32, u32, u32, u32),
+    One([u32; 1]),
+    Two([u32; 2]),
+    Three([u32; 3]),
+    Four([u32; 4]),
 }
 
-#[derive(Clone, Copy)]
+#[derive(Clone, Copy, Debug, PartialEq, Eq)]
 pub enum Change {
     // so many words come off, and these go on
     Replace(usize, Few),
@@ -22,34 +22,29 @@ pub enum Change {
 }
 
 impl Few {
+    pub(crate) fn words(&self) -> &[u32]
+        ensures value { result.now ≡ few_words self.now }
+        ensures below { length result.now ≤ 4 }
+    {
+        match self {
+            Few::Zero => &[],
+            Few::One(words) => words,
+            Few::Two(words) => words,
+            Few::Three(words) => words,
+            Few::Four(words) => words,
+        }
+    }
+
     pub fn len(self) -> usize
         ensures value { result ≡ length (few_words self) }
         ensures below { result ≤ 4 }
     {
-        match self {
-            Few::Zero => 0,
-            Few::One(_) => 1,
-            Few::Two(_, _) => 2,
-            Few::Three(_, _, _) => 3,
-            Few::Four(_, _, _, _) => 4,
-        }
+        self.words().len()
     }
 
     pub fn get(self, place: usize) -> Option<u32>
         ensures { result ≡ slice_get (few_words self) place }
     {
-        match (self, place) {
-            (Few::One(a), 0) => Some(a),
-            (Few::Two(a, _), 0) => Some(a),
-            (Few::Two(_, b), 1) => Some(b),
-            (Few::Three(a, _, _), 0) => Some(a),
-            (Few::Three(_, b, _), 1) => Some(b),
-            (Few::Three(_, _, c), 2) => Some(c),
-            (Few::Four(a, _, _, _), 0) => Some(a),
-            (Few::Four(_, b, _, _), 1) => Some(b),
-            (Few::Four(_, _, c, _), 2) => Some(c),
-            (Few::Four(_, _, _, d), 3) => Some(d),
-            _ => None,
-        }
+        self.words().get(place).copied()
     }
 }

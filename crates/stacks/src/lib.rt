@@ -2,7 +2,7 @@
 #![tactic(auto)]
 
 pub mod changes;
+pub mod contents;
 pub mod reading;
 pub mod settling;
 pub mod stack;
-pub mod words;

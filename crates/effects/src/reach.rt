@@ -1,0 +1,32 @@
+// The words that an operand may name: those of its own stack, and those near the top of any other, as they were before
+// the bundle.
+ghost use Rattle.std.specs.Prelude.{◌≡◌};
+ghost use Rattle.effects.specs.Operands.{words_of};
+ghost use Rattle.operations.specs.Places.{near_number, stack_number};
+ghost use Rattle.stacks.specs.Stacks.{stack_at};
+ghost use Rattle.std.specs.List.{slice_get};
+
+use operations::places::{Near, StackNumber};
+use stacks::contents::Words;
+use stacks::stack::Stack;
+
+#[derive(Clone, Copy)]
+pub struct Reach<'a> {
+    pub stacks: &'a [Stack; 4],
+    pub own: &'a Words,
+}
+
+pub fn stack(stacks: &[Stack; 4], number: StackNumber) -> &Stack
+    ensures { result.now ≡ stack_at stacks.now (stack_number number) }
+{
+    let stacks = &stacks[..];
+    &stacks[number.number() as usize]
+}
+
+impl Reach<'_> {
+    pub(crate) fn other_word(&self, number: StackNumber, near: Near) -> Option<u32>
+        ensures { result ≡ slice_get (words_of self.now.stacks.now number) (near_number near) }
+    {
+        stack(self.stacks, number).words.get(near.number() as usize)
+    }
+}
