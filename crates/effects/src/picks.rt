@@ -5,6 +5,7 @@ ghost use Rattle.effects.specs.Reading.{read_change};
 ghost use Rattle.operations.specs.Operands.{source_operand};
 
 use super::reach::Reach;
+use codes::numbers::Numbered;
 use operations::operands::Source;
 use operations::places::Near;
 use stacks::changes::{Change, Few};
