@@ -41,14 +41,14 @@ moved S3 (x3 ∷ x2 ∷ x1 ∷ []) = None
 moved S3 (x3 ∷ x2 ∷ x1 ∷ x0 ∷ xs) = Some (x0 ∷ x3 ∷ x2 ∷ x1 ∷ xs)  -- x0 x1 x2 x3 — x1 x2 x3 x0
 
 -- the stack effect of a place; nothing where words lack, of the own stack or of another
-abbrev pub fetched : Place → List ℕ → (StackNumber → List ℕ) → Option (List ℕ)
-fetched (Own place) xs all = onto (slice_get xs (place_number place)) xs  -- s1: x0 x1 — x0 x1 x0
-fetched (Moved near) xs all = moved near xs
-fetched (Other stack near) xs all = onto (slice_get (all stack) (near_number near)) xs
+abbrev pub placed : Place → List ℕ → (StackNumber → List ℕ) → Option (List ℕ)
+placed (Own place) xs all = onto (slice_get xs (place_number place)) xs  -- s1: x0 x1 — x0 x1 x0
+placed (Moved near) xs all = moved near xs
+placed (Other stack near) xs all = onto (slice_get (all stack) (near_number near)) xs
 
 -- an operand's stack effect: that of its place, or a constant on top
 abbrev pub effect : Operand → List ℕ → (StackNumber → List ℕ) → Option (List ℕ)
-effect (Source place) xs all = fetched place xs all
+effect (Source place) xs all = placed place xs all
 effect (Constant constant) xs all = Some (constant_value constant ∷ xs)
 
 -- an operation's words: n2 is the top, n1 the word below it
