@@ -1,7 +1,9 @@
 // Questions that are asked in turn: the first one that gets a no is the answer.
 #![tactic(auto)]
 
-ghost use Rattle.std.specs.Prelude.{◌≡◌, ◌∷◌, []};
+pub mod refusals;
+
+ghost use Rattle.std.specs.Prelude.{◌≡◌, [], ◌∷◌};
 ghost use Rattle.questions.specs.Questions.{answered, first_no};
 
 // Asks one question, and refuses where it gets a no. Calls with `?` one after the other ask in turn:
