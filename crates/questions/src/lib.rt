@@ -1,6 +1,7 @@
 // Questions that are asked in turn: the first one that gets a no is the answer.
 #![tactic(auto)]
 
+pub mod failures;
 pub mod refusals;
 
 ghost use Rattle.std.specs.Prelude.{◌≡◌, [], ◌∷◌};
