@@ -1,8 +1,9 @@
 -- An operation's number leads back to it.
-use Rattle.std.proofs.Common.{◌≡◌, ℕ, zero, suc, ◌+◌, ◌-◌, ◌<◌, ◌≤◌, map, List, [], ◌∷◌, ◌++◌, length, take, drop, refl, Some, None, Option, ap, ◌∙◌, arith, rules}
+use Rattle.std.proofs.Common.{◌≡◌, ℕ, ◌+◌, ◌-◌, ◌<◌, [], take, drop, refl, Some, arith}
+use Rattle.codes.proofs.Tables.{further_on}
 use Rattle.operations.specs.Kinds.{binaries, fetches, multiplies, scans, shifts, specials}
 use Rattle.operations.specs.Operands.{decoded_operand}
-use Rattle.operations.specs.Operations.{bare, combined, decoded_operation, firsts, given, lasts, latched}
+use Rattle.operations.specs.Operations.{combined, decoded_operation, firsts, lasts, latched}
 use Rattle.operations.specs.declared.kinds.Binary.{Binary}
 use Rattle.operations.specs.declared.kinds.Fetch.{Fetch}
 use Rattle.operations.specs.declared.kinds.Multiply.{Multiply}
@@ -13,33 +14,19 @@ use Rattle.operations.specs.declared.operands.Operand.{Operand}
 use Rattle.operations.specs.declared.operation.Operation.{Operation}
 use Rattle.operations.specs.declared.operation.Operation.TheVariants as operation
 use Rattle.std.proofs.lemmas.Bool.{le-ltb, lt-ltb}
-use Rattle.std.proofs.lemmas.Option.{slice_get-map}
-use Rattle.std.specs.Option.{option_map}
 use Rattle.std.specs.List.{slice_get}
 use Rattle.words.specs.Numbers.{conditions}
 use Rattle.words.specs.declared.condition.Condition.{Condition}
 
--- what a list of one kind has at a place, a table that it is part of has so much further on
-module _ {A B : Type 0} (f : A → B) (xs : List A) (k : ℕ) (x : A) (found : slice_get xs k ≡ Some x) where
-  in_front : (ys after : List B) (j : ℕ) (y : B) → slice_get ys j ≡ Some y → slice_get (ys ++ after) j ≡ Some y
-  in_front [] after j y here = cc
-  in_front (z ∷ ys) after zero y here = here
-  in_front (z ∷ ys) after (suc j) y here = in_front ys after j y here
-
-  at : (before after : List B) (j : ℕ) → j ≡ length before + k → slice_get (before ++ (map f xs ++ after)) j ≡ Some (f x)
-  at [] after j is = let same : j ≡ k = omega arith in in_front (map f xs) after j (f x) (slice_get-map f xs j ∙ ap (λ i. option_map f (slice_get xs i)) same ∙ ap (option_map f) found)
-  at (y ∷ before) after zero is = absurd (omega arith)
-  at (y ∷ before) after (suc j) is = at before after j (omega arith)
-
 module _ (n argument : ℕ) (x : Operand) (read : decoded_operand argument ≡ Some x) where
   pub combine_back : (b : Binary) → n < 9 → slice_get binaries n ≡ Some b → decoded_operation (3 + n) argument ≡ Some (operation.Combine b x)
   combine_back b small named =
-      let here : slice_get firsts (3 + n) ≡ Some (combined b) = at combined binaries n b named (take 3 firsts) (drop 12 firsts) (3 + n) refl in
+      let here : slice_get firsts (3 + n) ≡ Some (combined b) = further_on combined binaries n b named (take 3 firsts) (drop 12 firsts) (3 + n) refl in
       simp (lt-ltb (3 + n) 17 (omega arith), here, read)
 
   pub latch_back : (m : Multiply) → n < 3 → slice_get multiplies n ≡ Some m → decoded_operation (12 + n) argument ≡ Some (operation.Latch m x)
   latch_back m small named =
-      let here : slice_get firsts (12 + n) ≡ Some (latched m) = at latched multiplies n m named (take 12 firsts) (drop 15 firsts) (12 + n) refl in
+      let here : slice_get firsts (12 + n) ≡ Some (latched m) = further_on latched multiplies n m named (take 12 firsts) (drop 15 firsts) (12 + n) refl in
       simp (lt-ltb (12 + n) 17 (omega arith), here, read)
 
 pub flag_back : (condition : Condition) (n : ℕ) → n < 16 → slice_get conditions n ≡ Some condition → decoded_operation (17 + n) 0 ≡ Some (operation.Flag condition)
@@ -55,13 +42,13 @@ late number k o is here =
 
 module _ (n : ℕ) where
   pub shift_back : (s : Shift) → slice_get shifts n ≡ Some s → decoded_operation (33 + n) 0 ≡ Some (operation.Shift s)
-  shift_back s named = late (33 + n) n (operation.Shift s) refl (at operation.Shift shifts n s named [] (drop 8 lasts) n (omega arith))
+  shift_back s named = late (33 + n) n (operation.Shift s) refl (further_on operation.Shift shifts n s named [] (drop 8 lasts) n (omega arith))
 
   pub scan_back : (s : Scan) → slice_get scans n ≡ Some s → decoded_operation (41 + n) 0 ≡ Some (operation.Scan s)
-  scan_back s named = late (41 + n) (8 + n) (operation.Scan s) (omega arith) (at operation.Scan scans n s named (take 8 lasts) (drop 10 lasts) (8 + n) refl)
+  scan_back s named = late (41 + n) (8 + n) (operation.Scan s) (omega arith) (further_on operation.Scan scans n s named (take 8 lasts) (drop 10 lasts) (8 + n) refl)
 
   pub special_back : (s : Special) → slice_get specials n ≡ Some s → decoded_operation (43 + n) 0 ≡ Some (operation.Special s)
-  special_back s named = late (43 + n) (10 + n) (operation.Special s) (omega arith) (at operation.Special specials n s named (take 10 lasts) (drop 14 lasts) (10 + n) refl)
+  special_back s named = late (43 + n) (10 + n) (operation.Special s) (omega arith) (further_on operation.Special specials n s named (take 10 lasts) (drop 14 lasts) (10 + n) refl)
 
   pub fetch_back : (f : Fetch) → slice_get fetches n ≡ Some f → decoded_operation (47 + n) 0 ≡ Some (operation.Fetch f)
-  fetch_back f named = late (47 + n) (14 + n) (operation.Fetch f) (omega arith) (at operation.Fetch fetches n f named (take 14 lasts) [] (14 + n) refl)
+  fetch_back f named = late (47 + n) (14 + n) (operation.Fetch f) (omega arith) (further_on operation.Fetch fetches n f named (take 14 lasts) [] (14 + n) refl)
