@@ -1,5 +1,6 @@
 -- The number of each fault, the question that got a no, and how both are shown.
-use Rattle.std.specs.Prelude.{ℕ, List, ◌++◌, codes, decimal}
+use Rattle.std.specs.Prelude.{ℕ, List, codes}
+use Rattle.questions.specs.Refusals.{refusal_text}
 use Rattle.drafts.specs.declared.draft.SlotFault.{SlotFault}
 use Rattle.drafts.specs.declared.draft.SlotFault.TheVariants.{Lacking, Crowded}
 
@@ -15,4 +16,4 @@ fault_question Crowded = codes "Do 64 words hold the stack after the part?"
 
 -- how it is shown: the number, then the question
 abbrev pub fault_text : SlotFault → List ℕ
-fault_text fault = decimal (fault_number fault) ++ codes ": " ++ fault_question fault
+fault_text fault = refusal_text (fault_number fault) (fault_question fault)
