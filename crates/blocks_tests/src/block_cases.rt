@@ -6,6 +6,7 @@ use blocks::layout::{BLOCK, PAYLOAD};
 use blocks::opening::open;
 use blocks::refusals::{BlockRefusal, SealRefusal};
 use blocks::sealing::{seal, seal_block};
+use questions::refusals::Refusal;
 
 #[test]
 fn check_words_worked_by_hand(rt: HostRuntime) {

@@ -6,6 +6,7 @@ use images::checking::{check as check_image, kind_of};
 use images::reading::payloads;
 use images::refusals::{ImageError, ImageRefusal};
 use images::sealing::seal_all;
+use questions::refusals::Refusal;
 use std::process::Abort;
 use std::test::Fail;
 

@@ -1,10 +1,7 @@
--- The number of each refusal of a code image.
-use Rattle.std.specs.Prelude.{ℕ}
-use Rattle.images.specs.Refusals.{image_number}
-use Rattle.images.specs.declared.refusals.ImageError.{ImageError}
-use Rattle.images.specs.declared.refusals.ImageError.TheVariants as images
-use Rattle.program.specs.declared.refusals.LoadError.{LoadError}
-use Rattle.program.specs.declared.refusals.LoadError.TheVariants.{Refused, OutOfMemory}
+-- The number of each refusal of a code image, its question, and how it is shown.
+use Rattle.std.specs.Prelude.{ℕ, List, ◌++◌, codes, decimal}
+use Rattle.questions.specs.Refusals.{refusal_text}
+use Rattle.images.specs.Refusals.{image_number, image_question, image_text}
 use Rattle.program.specs.declared.refusals.LoadRefusal.{LoadRefusal}
 use Rattle.program.specs.declared.refusals.LoadRefusal.TheVariants.{Image, Unlawful}
 
@@ -13,7 +10,12 @@ abbrev pub load_number : LoadRefusal → ℕ
 load_number (Image refusal) = image_number refusal
 load_number (Unlawful bundle) = 10
 
--- what is wrong with an image is wrong with the program
-abbrev pub load_error : ImageError → LoadError
-load_error (images.Refused refusal) = Refused (Image refusal)
-load_error images.OutOfMemory = OutOfMemory
+-- what was asked of the image, or of its bundles
+abbrev pub load_question : LoadRefusal → List ℕ
+load_question (Image refusal) = image_question refusal
+load_question (Unlawful bundle) = codes "Is every bundle lawful?"
+
+-- how it is shown: the image's refusal, or which bundle is not lawful
+abbrev pub load_text : LoadRefusal → List ℕ
+load_text (Image refusal) = image_text refusal
+load_text (Unlawful bundle) = refusal_text 10 (codes "Is every bundle lawful?") ++ codes " (bundle " ++ decimal bundle ++ codes ")"

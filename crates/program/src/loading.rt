@@ -17,7 +17,9 @@ impl Program {
     pub fn load(heap: Global, image: &[u8]) -> Result<Program, LoadError>
         ensures { Loads result image.now }
     {
-        let bytes = payloads(heap, Kind::Code, image)?;
+        let bytes = payloads(heap, Kind::Code, image).map_err(|failure| failure.map(
+            LoadRefusal::Image,
+        ))?;
         let bundles = decode_all(heap, &bytes)?;
         Ok(Program { bundles })
     }

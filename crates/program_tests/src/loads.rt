@@ -6,6 +6,7 @@ use images::refusals::ImageRefusal;
 use images::sealing::seal_all;
 use program::program::Program;
 use program::refusals::{LoadError, LoadRefusal};
+use questions::refusals::Refusal;
 use std::alloc::Global;
 use std::test::Fail;
 

@@ -1,11 +1,8 @@
-use Rattle.std.proofs.Common.{◌≡◌, length, ap, ◌∙◌, arith}
-use Rattle.program.specs.Loading.{code_of}
-use Rattle.program.proofs.CodeLength.{code_length}
+use Rattle.std.proofs.Common.{arith}
+use Rattle.program.proofs.CodeLength.{few_bytes}
 use Rattle.program.proofs.program.Program.load.Goals as goal
 
 pub decode_all-requires : goal.decode_all-requires
 decode_all-requires c =
-    let read = c.in_ok-bytes.ensures.answers in
-    let few = code_length c.args.image.now read.0 in
-    let long : length c.deref.result.now ≡ length (code_of c.args.image.now) = ap length (c.deref.ensures.value ∙ read.1) in
+    let few = few_bytes c.args.image.now _ _ c.in_ok-bytes.bytes _ c.payloads.ensures.answers c.map_err.ensures.cases c.map_err.ensures.variant c.in_ok-bytes.was in
     omega arith
