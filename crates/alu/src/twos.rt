@@ -11,19 +11,11 @@ use words::{bits, shifts, sums};
 pub fn combine(binary: Binary, n1: u32, n2: u32, flags: Flags) -> Flagged
     ensures { result ≡ combine binary n1 n2 flags }
 {
+    let leave_flags = |word| Flagged { word, flags };
     match binary {
-        Binary::Or => Flagged {
-            word: bits::or(n1, n2),
-            flags,
-        },
-        Binary::And => Flagged {
-            word: bits::and(n1, n2),
-            flags,
-        },
-        Binary::Xor => Flagged {
-            word: bits::xor(n1, n2),
-            flags,
-        },
+        Binary::Or => leave_flags(bits::or(n1, n2)),
+        Binary::And => leave_flags(bits::and(n1, n2)),
+        Binary::Xor => leave_flags(bits::xor(n1, n2)),
         Binary::Add => sums::add(n1, n2),
         Binary::Sub => sums::sub(n1, n2),
         Binary::Subr => sums::subr(n1, n2),

@@ -34,11 +34,12 @@ pub fn subc(n1: u32, n2: u32, c: bool) -> Flagged
     ensures value { result ≡ subc n1 n2 c }
     ensures exact { ExactlyUnlessOverflow (signed n1 -ℤ signed n2 +ℤ pos (bit c)) result }
 {
-    let difference = i64::from(n1.cast_signed()) - i64::from(n2.cast_signed()) + i64::from(c);
+    let more = u32::from(c);
+    let difference = i64::from(n1.cast_signed()) - i64::from(n2.cast_signed()) + i64::from(more);
     Flagged {
-        word: n1.wrapping_sub(n2).wrapping_add(u32::from(c)),
+        word: n1.wrapping_sub(n2).wrapping_add(more),
         flags: Flags {
-            carry: u64::from(n1) + u64::from(c) >= u64::from(n2),
+            carry: u64::from(n1) + u64::from(more) >= u64::from(n2),
             overflow: is_outside(difference),
         },
     }
