@@ -17,9 +17,3 @@ module _ (u : ℕ) (h : u < 2 ^ 32) where
       let e : (u * 2 ^ 31) % 2 ^ 32 ≡ (u % 2) * 2 ^ 31 = omega arith in
       let b : u / 2 < 2 ^ 31 = omega arith in
       rw (e, or_comm (u / 2) ((u % 2) * 2 ^ 31)) (or_shifted (u % 2) 31 (u / 2) b ∙ grind (arith, nat_tests))
-
-  pub left_back : (ror (rol u).word).word ≡ u
-  left_back = grind (arith, nat_tests)
-
-  pub right_back : (rol (ror u).word).word ≡ u
-  right_back = grind (arith, nat_tests)

@@ -60,7 +60,7 @@ pub fn lsr(u: u32) -> Flagged
     right(u, false)
 }
 
-#[tactic(auto, using(crate::proofs::Rotations::rotated_right, crate::proofs::Rotations::right_back))]
+#[tactic(auto, using(crate::proofs::Rotations::rotated_right))]
 pub fn ror(u: u32) -> Flagged
     ensures value { result ≡ ror u }
     ensures back { (rol result.word).word ≡ u }
@@ -97,7 +97,7 @@ pub fn lsl(u: u32) -> Flagged
     left(u, false)
 }
 
-#[tactic(auto, using(crate::proofs::Rotations::rotated_left, crate::proofs::Rotations::left_back))]
+#[tactic(auto, using(crate::proofs::Rotations::rotated_left))]
 pub fn rol(u: u32) -> Flagged
     ensures value { result ≡ rol u }
     ensures back { (ror result.word).word ≡ u }

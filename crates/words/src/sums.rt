@@ -7,13 +7,6 @@ ghost use Rattle.words.specs.Sums.{BorrowExact, CarryExact, ExactlyUnlessOverflo
 use crate::flagged::Flagged;
 use crate::flags::Flags;
 
-// The word as a signed number.
-fn signed_word(u: u32) -> i64
-    ensures { result ≡ signed u }
-{
-    i64::from(u.cast_signed())
-}
-
 // Whether no word, read as signed, is z.
 fn is_outside(z: i64) -> bool
     ensures { result ≡ outside z }
@@ -27,7 +20,7 @@ pub fn addc(n1: u32, n2: u32, c: bool) -> Flagged
     ensures exact { ExactlyUnlessOverflow (signed n1 +ℤ signed n2 +ℤ pos (bit c)) result }
 {
     let (word, carry) = n1.carrying_add(n2, c);
-    let sum = signed_word(n1) + signed_word(n2) + i64::from(c);
+    let sum = i64::from(n1.cast_signed()) + i64::from(n2.cast_signed()) + i64::from(c);
     Flagged {
         word,
         flags: Flags {
@@ -41,7 +34,7 @@ pub fn subc(n1: u32, n2: u32, c: bool) -> Flagged
     ensures value { result ≡ subc n1 n2 c }
     ensures exact { ExactlyUnlessOverflow (signed n1 -ℤ signed n2 +ℤ pos (bit c)) result }
 {
-    let difference = signed_word(n1) - signed_word(n2) + i64::from(c);
+    let difference = i64::from(n1.cast_signed()) - i64::from(n2.cast_signed()) + i64::from(c);
     Flagged {
         word: n1.wrapping_sub(n2).wrapping_add(u32::from(c)),
         flags: Flags {
@@ -66,7 +59,7 @@ pub fn add(n1: u32, n2: u32) -> Flagged
     addc(n1, n2, false)
 }
 
-#[tactic(auto, using(crate::proofs::Exactness::sub_borrows, crate::proofs::Comparing::compares))]
+#[tactic(auto, using(std::proofs::lemmas::Bool::Decides::nat_tests, crate::proofs::Comparing::compares))]
 pub fn sub(n1: u32, n2: u32) -> Flagged
     ensures value { result ≡ sub n1 n2 }
     ensures borrows { BorrowExact n1 n2 result }

@@ -12,9 +12,7 @@ pub returns : goal.returns
 returns c =
     let x = c.cast_signed.result in
     let y = c.cast_signed-2.result in
-    let fx : SFits w32 x = search rules in
-    let fy : SFits w32 y = search rules in
-    let p : SFits w64 (wide x *ℤ wide y) = signed_product w64 w32 w32 x y fx fy tt in
+    let p : SFits w64 (wide x *ℤ wide y) = signed_product w64 w32 w32 x y (search rules) (search rules) tt in
     let e : wide x ≡ signed c.args.n1 = omega (arith, ints) in
     let f : wide y ≡ signed c.args.n2 = omega (arith, ints) in
     let t = to_z-of_z w64 (wide x *ℤ wide y) p in
