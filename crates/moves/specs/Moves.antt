@@ -1,13 +1,12 @@
 -- Which move a code, a selector and a value byte mean, and the three bytes of a move.
-use Rattle.std.specs.Prelude.{ℕ, ◌+◌, cond, ◌&&◌, List, [], ◌∷◌, Some, None, Option, ◌==◌}
+use Rattle.std.specs.Prelude.{ℕ, ◌+◌, ◌++◌, cond, map, ◌&&◌, List, [], ◌∷◌, Some, None, Option, ◌==◌}
 use Rattle.std.specs.Int.{w8}
 use Rattle.std.proofs.Common.{of_z, to_z}
-use Rattle.moves.specs.Parts.{size_number}
-use Rattle.moves.specs.Selectors.{access_selector, decoded_access, decoded_transfer, transfer_selector}
+use Rattle.moves.specs.Parts.{size_number, sizes}
+use Rattle.moves.specs.Selectors.{access_selector, decoded_access, decoded_reach, reach_selector}
 use Rattle.moves.specs.declared.moving.Move.{Move}
 use Rattle.moves.specs.declared.moving.Move.TheVariants.{Idle, Offset, Load, Store, Set, Get}
 use Rattle.moves.specs.declared.parts.Size.{Size}
-use Rattle.moves.specs.declared.parts.Size.TheVariants.{One, Two, Four, Eight}
 use Rattle.std.specs.Option.{option_map}
 use Rattle.std.specs.List.{slice_get}
 
@@ -21,11 +20,11 @@ offset selector value = cond (selector == 0) (Some (Offset (to_z w8 value))) Non
 
 -- a load
 abbrev pub loading : Size → ℕ → ℕ → Option Move
-loading size selector value = cond (value == 0) (option_map Load (decoded_transfer size selector)) None
+loading size selector value = cond (value == 0) (option_map (Load size) (decoded_reach selector)) None
 
 -- a store
 abbrev pub storing : Size → ℕ → ℕ → Option Move
-storing size selector value = cond (value == 0) (option_map Store (decoded_transfer size selector)) None
+storing size selector value = cond (value == 0) (option_map (Store size) (decoded_reach selector)) None
 
 -- a register is set from a stack
 abbrev pub setting : ℕ → ℕ → Option Move
@@ -40,10 +39,9 @@ abbrev pub codes : List (ℕ → ℕ → Option Move)
 codes =
     idle ∷
     offset ∷
-    loading One ∷ loading Two ∷ loading Four ∷ loading Eight ∷
-    storing One ∷ storing Two ∷ storing Four ∷ storing Eight ∷
+    (map loading sizes ++ (map storing sizes ++
     setting ∷
-    getting ∷ []
+    getting ∷ []))
 
 -- what an entry of that list makes of the selector and the value
 abbrev pub given : Option (ℕ → ℕ → Option Move) → ℕ → ℕ → Option Move
@@ -58,7 +56,7 @@ decoded_move code selector value = given (slice_get codes code) selector value
 abbrev pub encoded_move : Move → List ℕ
 encoded_move Idle = 0 ∷ 0 ∷ 0 ∷ []
 encoded_move (Offset value) = 1 ∷ 0 ∷ of_z w8 value ∷ []
-encoded_move (Load transfer) = (2 + size_number transfer.size) ∷ transfer_selector transfer ∷ 0 ∷ []
-encoded_move (Store transfer) = (6 + size_number transfer.size) ∷ transfer_selector transfer ∷ 0 ∷ []
+encoded_move (Load size reach) = (2 + size_number size) ∷ reach_selector reach ∷ 0 ∷ []
+encoded_move (Store size reach) = (6 + size_number size) ∷ reach_selector reach ∷ 0 ∷ []
 encoded_move (Set access) = 10 ∷ access_selector access ∷ 0 ∷ []
 encoded_move (Get access) = 11 ∷ access_selector access ∷ 0 ∷ []

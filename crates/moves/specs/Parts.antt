@@ -12,7 +12,11 @@ use Rattle.moves.specs.declared.parts.SetNumber.TheVariants as set
 use Rattle.moves.specs.declared.parts.Size.{Size}
 use Rattle.moves.specs.declared.parts.Size.TheVariants as size
 
--- a size's place among the sizes
+-- the sizes
+abbrev pub sizes : List Size
+sizes = size.One ∷ size.Two ∷ size.Four ∷ size.Eight ∷ []
+
+-- a size's place among them
 abbrev pub size_number : Size → ℕ
 size_number size.One = 0
 size_number size.Two = 1

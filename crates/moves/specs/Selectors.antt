@@ -5,10 +5,9 @@ use Rattle.moves.specs.declared.parts.Half.{Half}
 use Rattle.moves.specs.declared.parts.Mode.{Mode}
 use Rattle.moves.specs.declared.parts.Register.{Register}
 use Rattle.moves.specs.declared.parts.SetNumber.{SetNumber}
-use Rattle.moves.specs.declared.parts.Size.{Size}
 use Rattle.moves.specs.declared.selectors.Access.{Access}
 use Rattle.moves.specs.declared.selectors.Port.{Port}
-use Rattle.moves.specs.declared.selectors.Transfer.{Transfer}
+use Rattle.moves.specs.declared.selectors.Reach.{Reach}
 use Rattle.std.specs.List.{slice_get}
 
 -- a port of a set and a stack, if there are both
@@ -25,19 +24,19 @@ decoded_port low = port_of (slice_get sets (low % 4)) (slice_get halves (low / 4
 abbrev pub encoded_port : Port → ℕ
 encoded_port port = set_number port.set + 4 * half_number port.stack
 
--- a transfer of a port and a mode, if there are both
-abbrev pub transfer_of : Size → Option Port → Option Mode → Option Transfer
-transfer_of size None mode = None
-transfer_of size (Some port) None = None
-transfer_of size (Some port) (Some mode) = Some (record { size = size; port = port; mode = mode })
+-- a reach of a port and a mode, if there are both
+abbrev pub reach_of : Option Port → Option Mode → Option Reach
+reach_of None mode = None
+reach_of (Some port) None = None
+reach_of (Some port) (Some mode) = Some (record { port = port; mode = mode })
 
 -- the selector of a load or a store
-abbrev pub decoded_transfer : Size → ℕ → Option Transfer
-decoded_transfer size selector = transfer_of size (decoded_port (selector % 16)) (slice_get modes (selector / 16))
+abbrev pub decoded_reach : ℕ → Option Reach
+decoded_reach selector = reach_of (decoded_port (selector % 16)) (slice_get modes (selector / 16))
 
 -- the byte of such a selector
-abbrev pub transfer_selector : Transfer → ℕ
-transfer_selector transfer = encoded_port transfer.port + 16 * mode_number transfer.mode
+abbrev pub reach_selector : Reach → ℕ
+reach_selector reach = encoded_port reach.port + 16 * mode_number reach.mode
 
 -- an access of a port and a register, if there are both
 abbrev pub access_of : Option Port → Option Register → Option Access

@@ -13,7 +13,7 @@ use Rattle.moves.specs.declared.parts.SetNumber.{SetNumber}
 use Rattle.moves.specs.declared.parts.Size.{Size}
 use Rattle.moves.specs.declared.parts.Size.TheVariants.{One, Two, Four, Eight}
 use Rattle.moves.specs.declared.selectors.Access.{Access}
-use Rattle.moves.specs.declared.selectors.Transfer.{Transfer}
+use Rattle.moves.specs.declared.selectors.Reach.{Reach}
 use Rattle.moves.specs.declared.side.Side.{Side}
 use Rattle.operations.specs.Text.{stack_text}
 use Rattle.operations.specs.declared.places.StackNumber.{StackNumber}
@@ -55,8 +55,8 @@ abbrev pub set_text : SetNumber → List ℕ
 set_text set = decimal (set_number set)
 
 -- a load or a store after its word
-abbrev pub address_text : StackNumber → Transfer → List ℕ
-address_text stack t = stack_text stack ++ (codes ": R" ++ (set_text t.port.set ++ mode_text t.mode))
+abbrev pub address_text : StackNumber → Reach → List ℕ
+address_text stack reach = stack_text stack ++ (codes ": R" ++ (set_text reach.port.set ++ mode_text reach.mode))
 
 -- a set or a get after its word
 abbrev pub named_text : StackNumber → Access → List ℕ
@@ -66,7 +66,7 @@ named_text stack a = stack_text stack ++ (codes ": " ++ (register_text a.registe
 abbrev pub move_text : Side → Move → List ℕ
 move_text side Idle = codes "none"
 move_text side (Offset value) = codes "offset " ++ signed_decimal value
-move_text side (Load t) = load_word t.size ++ (codes " " ++ address_text (stack_on side t.port.stack) t)
-move_text side (Store t) = store_word t.size ++ (codes " " ++ address_text (stack_on side t.port.stack) t)
+move_text side (Load size reach) = load_word size ++ (codes " " ++ address_text (stack_on side reach.port.stack) reach)
+move_text side (Store size reach) = store_word size ++ (codes " " ++ address_text (stack_on side reach.port.stack) reach)
 move_text side (Set a) = codes "set " ++ named_text (stack_on side a.port.stack) a
 move_text side (Get a) = codes "get " ++ named_text (stack_on side a.port.stack) a

@@ -1,7 +1,9 @@
 // What a move is put together from, by number.
-ghost use Rattle.std.specs.Prelude.{◌≡◌, ◌<◌, IfSome, Some};
-ghost use Rattle.moves.specs.Parts.{half_number, halves, mode_number, modes, register_number, registers, set_number, sets, size_bytes, size_number};
+ghost use Rattle.std.specs.Prelude.{◌≡◌};
+ghost use Rattle.moves.specs.Parts.{half_number, halves, mode_number, modes, register_number, registers, set_number, sets, size_bytes, size_number, sizes};
 ghost use Rattle.std.specs.List.{slice_get};
+
+use codes::numbers::Numbered;
 
 // How many bytes a load or a store takes.
 #[derive(Clone, Copy, PartialEq, Eq, Debug)]
@@ -12,14 +14,29 @@ pub enum Size {
     Eight,
 }
 
-impl Size {
-    pub(super) fn number(self) -> u8
-        ensures value { result ≡ size_number self }
-        ensures below { result < 4 }
-    {
-        self as u8
+impl Numbered for Size {
+    ghost numbered = { slice_get sizes };
+
+    ghost number_of = { size_number };
+
+    ghost bound = { 4 };
+
+    fn from_number(number: u8) -> Option<Size> {
+        match number {
+            0 => Some(Size::One),
+            1 => Some(Size::Two),
+            2 => Some(Size::Four),
+            3 => Some(Size::Eight),
+            _ => None,
+        }
     }
 
+    fn number(self) -> u8 {
+        self as u8
+    }
+}
+
+impl Size {
     pub fn bytes(self) -> u8
         ensures { result ≡ size_bytes self }
     {
@@ -41,11 +58,14 @@ pub enum SetNumber {
     Three,
 }
 
-impl SetNumber {
-    pub fn from_number(number: u8) -> Option<SetNumber>
-        ensures value { result ≡ slice_get sets number }
-        ensures only { IfSome result (λ set. set_number set ≡ number) }
-    {
+impl Numbered for SetNumber {
+    ghost numbered = { slice_get sets };
+
+    ghost number_of = { set_number };
+
+    ghost bound = { 4 };
+
+    fn from_number(number: u8) -> Option<SetNumber> {
         match number {
             0 => Some(SetNumber::Zero),
             1 => Some(SetNumber::One),
@@ -55,11 +75,7 @@ impl SetNumber {
         }
     }
 
-    pub fn number(self) -> u8
-        ensures value { result ≡ set_number self }
-        ensures back { slice_get sets result ≡ Some self }
-        ensures below { result < 4 }
-    {
+    fn number(self) -> u8 {
         self as u8
     }
 }
@@ -71,11 +87,14 @@ pub enum Half {
     Higher,
 }
 
-impl Half {
-    pub fn from_number(number: u8) -> Option<Half>
-        ensures value { result ≡ slice_get halves number }
-        ensures only { IfSome result (λ half. half_number half ≡ number) }
-    {
+impl Numbered for Half {
+    ghost numbered = { slice_get halves };
+
+    ghost number_of = { half_number };
+
+    ghost bound = { 2 };
+
+    fn from_number(number: u8) -> Option<Half> {
         match number {
             0 => Some(Half::Lower),
             1 => Some(Half::Higher),
@@ -83,11 +102,7 @@ impl Half {
         }
     }
 
-    pub fn number(self) -> u8
-        ensures value { result ≡ half_number self }
-        ensures back { slice_get halves result ≡ Some self }
-        ensures below { result < 2 }
-    {
+    fn number(self) -> u8 {
         self as u8
     }
 }
@@ -108,11 +123,14 @@ pub enum Mode {
     PlusStep(Index),
 }
 
-impl Mode {
-    pub fn from_number(number: u8) -> Option<Mode>
-        ensures value { result ≡ slice_get modes number }
-        ensures only { IfSome result (λ mode. mode_number mode ≡ number) }
-    {
+impl Numbered for Mode {
+    ghost numbered = { slice_get modes };
+
+    ghost number_of = { mode_number };
+
+    ghost bound = { 7 };
+
+    fn from_number(number: u8) -> Option<Mode> {
         match number {
             0 => Some(Mode::Still),
             1 => Some(Mode::Plus(Index::N)),
@@ -125,11 +143,7 @@ impl Mode {
         }
     }
 
-    pub fn number(self) -> u8
-        ensures value { result ≡ mode_number self }
-        ensures back { slice_get modes result ≡ Some self }
-        ensures below { result < 7 }
-    {
+    fn number(self) -> u8 {
         match self {
             Mode::Still => 0,
             Mode::Plus(Index::N) => 1,
@@ -151,11 +165,14 @@ pub enum Register {
     F,
 }
 
-impl Register {
-    pub fn from_number(number: u8) -> Option<Register>
-        ensures value { result ≡ slice_get registers number }
-        ensures only { IfSome result (λ register. register_number register ≡ number) }
-    {
+impl Numbered for Register {
+    ghost numbered = { slice_get registers };
+
+    ghost number_of = { register_number };
+
+    ghost bound = { 4 };
+
+    fn from_number(number: u8) -> Option<Register> {
         match number {
             0 => Some(Register::R),
             1 => Some(Register::N),
@@ -165,11 +182,7 @@ impl Register {
         }
     }
 
-    pub fn number(self) -> u8
-        ensures value { result ≡ register_number self }
-        ensures back { slice_get registers result ≡ Some self }
-        ensures below { result < 4 }
-    {
+    fn number(self) -> u8 {
         self as u8
     }
 }

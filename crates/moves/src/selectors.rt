@@ -1,8 +1,8 @@
 // Selector bytes: a set and a stack in the low half, a mode or a register in the high half.
-ghost use Rattle.std.specs.Prelude.{◌≡◌, ◌<◌, IfSome, Some};
-ghost use Rattle.moves.specs.Selectors.{access_selector, decoded_access, decoded_port, decoded_transfer, encoded_port, transfer_selector};
+ghost use Rattle.moves.specs.Selectors.{access_selector, decoded_access, decoded_port, decoded_reach, encoded_port, reach_selector};
 
-use super::parts::{Half, Mode, Register, SetNumber, Size};
+use super::parts::{Half, Mode, Register, SetNumber};
+use codes::numbers::Numbered;
 
 // The set of registers and the stack that a move joins.
 #[derive(Clone, Copy, PartialEq, Eq, Debug)]
@@ -11,49 +11,47 @@ pub struct Port {
     pub stack: Half,
 }
 
-impl Port {
-    // From the low half of a selector.
-    pub fn decode(low: u8) -> Option<Port>
-        ensures value { result ≡ decoded_port low }
-        ensures only { IfSome result (λ port. encoded_port port ≡ low) }
-    {
-        let set = SetNumber::from_number(low % 4)?;
-        let stack = Half::from_number(low / 4)?;
+// The low half of a selector.
+impl Numbered for Port {
+    ghost numbered = { decoded_port };
+
+    ghost number_of = { encoded_port };
+
+    ghost bound = { 8 };
+
+    fn from_number(number: u8) -> Option<Port> {
+        let set = SetNumber::from_number(number % 4)?;
+        let stack = Half::from_number(number / 4)?;
         Some(Port { set, stack })
     }
 
-    pub fn encode(self) -> u8
-        ensures value { result ≡ encoded_port self }
-        ensures back { decoded_port result ≡ Some self }
-        ensures below { result < 8 }
-    {
+    fn number(self) -> u8 {
         self.set.number() + 4 * self.stack.number()
     }
 }
 
-// What a load or a store carries, and where.
+// Where a load or a store reaches.
 #[derive(Clone, Copy, PartialEq, Eq, Debug)]
-pub struct Transfer {
-    pub size: Size,
+pub struct Reach {
     pub port: Port,
     pub mode: Mode,
 }
 
-impl Transfer {
-    pub fn decode(size: Size, selector: u8) -> Option<Transfer>
-        ensures value { result ≡ decoded_transfer size selector }
-        ensures only { IfSome result (λ transfer. (transfer.size ≡ size) × (transfer_selector transfer ≡ selector)) }
-    {
-        let port = Port::decode(selector % 16)?;
-        let mode = Mode::from_number(selector / 16)?;
-        Some(Transfer { size, port, mode })
+impl Numbered for Reach {
+    ghost numbered = { decoded_reach };
+
+    ghost number_of = { reach_selector };
+
+    ghost bound = { 104 };
+
+    fn from_number(number: u8) -> Option<Reach> {
+        let port = Port::from_number(number % 16)?;
+        let mode = Mode::from_number(number / 16)?;
+        Some(Reach { port, mode })
     }
 
-    pub fn selector(self) -> u8
-        ensures value { result ≡ transfer_selector self }
-        ensures back { decoded_transfer self.size result ≡ Some self }
-    {
-        self.port.encode() + 16 * self.mode.number()
+    fn number(self) -> u8 {
+        self.port.number() + 16 * self.mode.number()
     }
 }
 
@@ -64,20 +62,20 @@ pub struct Access {
     pub port: Port,
 }
 
-impl Access {
-    pub fn decode(selector: u8) -> Option<Access>
-        ensures value { result ≡ decoded_access selector }
-        ensures only { IfSome result (λ access. access_selector access ≡ selector) }
-    {
-        let port = Port::decode(selector % 16)?;
-        let register = Register::from_number(selector / 16)?;
+impl Numbered for Access {
+    ghost numbered = { decoded_access };
+
+    ghost number_of = { access_selector };
+
+    ghost bound = { 56 };
+
+    fn from_number(number: u8) -> Option<Access> {
+        let port = Port::from_number(number % 16)?;
+        let register = Register::from_number(number / 16)?;
         Some(Access { register, port })
     }
 
-    pub fn selector(self) -> u8
-        ensures value { result ≡ access_selector self }
-        ensures back { decoded_access result ≡ Some self }
-    {
-        self.port.encode() + 16 * self.register.number()
+    fn number(self) -> u8 {
+        self.port.number() + 16 * self.register.number()
     }
 }

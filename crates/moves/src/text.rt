@@ -1,12 +1,12 @@
 // Moves as people write them: `st 0: R1 N+`, `get 3: F2`, `offset -8`.
 ghost use Rattle.std.specs.Prelude.{◌≡◌, Some};
-ghost use Rattle.moves.specs.Text.{address_text, load_word, mode_text, move_text, named_text, register_text, set_text, store_word};
+ghost use Rattle.moves.specs.Text.{load_word, mode_text, move_text, register_text, set_text, store_word};
 
 use super::moving::Move;
 use super::parts::{Index, Mode, Register, SetNumber, Size};
-use super::selectors::{Access, Transfer};
+use super::selectors::{Access, Reach};
 use super::side::SideMove;
-use operations::places::StackNumber;
+use codes::numbers::Numbered;
 use std::fmt;
 
 fn load_word(size: Size) -> &'static str
@@ -43,15 +43,15 @@ impl fmt::Display for Mode {
     ghost output = { λ mode. Some (mode_text mode) };
 
     fn fmt<W: fmt::Write>(&self, f: &mut fmt::Formatter<W>) -> fmt::Result {
-        match self {
-            Mode::Still => f.write_str(""),
-            Mode::Plus(Index::N) => f.write_str("+N"),
-            Mode::Step(Index::N) => f.write_str(" N+"),
-            Mode::PlusStep(Index::N) => f.write_str("+N+"),
-            Mode::Plus(Index::Top) => f.write_str("+s0"),
-            Mode::Step(Index::Top) => f.write_str(" s0+"),
-            Mode::PlusStep(Index::Top) => f.write_str("+s0+"),
-        }
+        f.write_str(match self {
+            Mode::Still => "",
+            Mode::Plus(Index::N) => "+N",
+            Mode::Step(Index::N) => " N+",
+            Mode::PlusStep(Index::N) => "+N+",
+            Mode::Plus(Index::Top) => "+s0",
+            Mode::Step(Index::Top) => " s0+",
+            Mode::PlusStep(Index::Top) => "+s0+",
+        })
     }
 }
 
@@ -59,48 +59,12 @@ impl fmt::Display for Register {
     ghost output = { λ register. Some (register_text register) };
 
     fn fmt<W: fmt::Write>(&self, f: &mut fmt::Formatter<W>) -> fmt::Result {
-        match self {
-            Register::R => f.write_str("R"),
-            Register::N => f.write_str("N"),
-            Register::L => f.write_str("L"),
-            Register::F => f.write_str("F"),
-        }
-    }
-}
-
-// A load or a store after its word.
-#[derive(Clone, Copy)]
-struct Address {
-    stack: StackNumber,
-    transfer: Transfer,
-}
-
-impl fmt::Display for Address {
-    ghost output = { λ it. Some (address_text it.stack it.transfer) };
-
-    fn fmt<W: fmt::Write>(&self, f: &mut fmt::Formatter<W>) -> fmt::Result {
-        let stack = self.stack;
-        let set = self.transfer.port.set;
-        let mode = self.transfer.mode;
-        write!(f, "{stack}: R{set}{mode}")
-    }
-}
-
-// A set or a get after its word.
-#[derive(Clone, Copy)]
-struct Named {
-    stack: StackNumber,
-    access: Access,
-}
-
-impl fmt::Display for Named {
-    ghost output = { λ it. Some (named_text it.stack it.access) };
-
-    fn fmt<W: fmt::Write>(&self, f: &mut fmt::Formatter<W>) -> fmt::Result {
-        let stack = self.stack;
-        let register = self.access.register;
-        let set = self.access.port.set;
-        write!(f, "{stack}: {register}{set}")
+        f.write_str(match self {
+            Register::R => "R",
+            Register::N => "N",
+            Register::L => "L",
+            Register::F => "F",
+        })
     }
 }
 
@@ -112,34 +76,32 @@ impl fmt::Display for SideMove {
         match self.made {
             Move::Idle => f.write_str("none"),
             Move::Offset(value) => write!(f, "offset {value}"),
-            Move::Load(transfer) => {
-                let address = Address {
-                    stack: side.stack(transfer.port.stack),
-                    transfer,
-                };
-                write!(f, "{} {address}", load_word(transfer.size))
-            }
-            Move::Store(transfer) => {
-                let address = Address {
-                    stack: side.stack(transfer.port.stack),
-                    transfer,
-                };
-                write!(f, "{} {address}", store_word(transfer.size))
-            }
-            Move::Set(access) => {
-                let named = Named {
-                    stack: side.stack(access.port.stack),
-                    access,
-                };
-                write!(f, "set {named}")
-            }
-            Move::Get(access) => {
-                let named = Named {
-                    stack: side.stack(access.port.stack),
-                    access,
-                };
-                write!(f, "get {named}")
-            }
+            Move::Load(size, Reach { port, mode }) => write!(
+                f,
+                "{} {}: R{}{mode}",
+                load_word(size),
+                side.stack(port.stack),
+                port.set
+            ),
+            Move::Store(size, Reach { port, mode }) => write!(
+                f,
+                "{} {}: R{}{mode}",
+                store_word(size),
+                side.stack(port.stack),
+                port.set
+            ),
+            Move::Set(Access { register, port }) => write!(
+                f,
+                "set {}: {register}{}",
+                side.stack(port.stack),
+                port.set
+            ),
+            Move::Get(Access { register, port }) => write!(
+                f,
+                "get {}: {register}{}",
+                side.stack(port.stack),
+                port.set
+            ),
         }
     }
 }

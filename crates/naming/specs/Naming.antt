@@ -1,13 +1,8 @@
 -- Which operation a text names.
-use Rattle.std.specs.Prelude.{◌≡◌, ℕ, ◌<◌, Bool, true, false, List, Some, None, Option}
+use Rattle.std.specs.Prelude.{◌≡◌, ℕ, ◌<◌, List, Some, None, Option}
 use Rattle.operations.specs.Text.{operation_text}
 use Rattle.operations.specs.Operations.{decoded_operation}
 use Rattle.operations.specs.declared.operation.Operation.{Operation}
-
--- a flag says whether an operation is written so
-abbrev pub Tells : Operation → List ℕ → Bool → Type 0
-Tells operation text true = operation_text operation ≡ text
-Tells operation text false = operation_text operation ≡ text → ⊥
 
 -- two bytes mean no operation that is written so
 abbrev pub NotWritten : List ℕ → Option Operation → Type 0

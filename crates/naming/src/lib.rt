@@ -1,18 +1,12 @@
 //! Operations by what people write for them.
 #![tactic(auto)]
 
-ghost use Rattle.naming.specs.Naming.{Named, NamedAt, NamedBy, Tells};
+ghost use Rattle.naming.specs.Naming.{Named, NamedAt, NamedBy};
 ghost use Rattle.std.specs.Prelude.{IfOk};
 
+use codes::bytes::Coded;
 use operations::operation::Operation;
 use std::alloc::{AllocError, Global};
-
-fn is_written(heap: Global, operation: Operation, text: &str) -> Result<bool, AllocError>
-    ensures { IfOk result (Tells operation text.now) }
-{
-    let written = operation.to_string(heap)?;
-    Ok(written.as_str() == text)
-}
 
 fn named_at(
     heap: Global,
@@ -22,21 +16,18 @@ fn named_at(
 ) -> Result<Option<Operation>, AllocError>
     ensures { IfOk result (NamedAt number argument text.now) }
 {
-    let Some(operation) = Operation::decode(number, argument) else {
+    let Some(operation) = Operation::decode(&[number, argument]) else {
         return Ok(None);
     };
-    if is_written(heap, operation, text)? {
-        Ok(Some(operation))
-    } else {
-        Ok(None)
-    }
+    let written = operation.to_string(heap)?;
+    Ok((written.as_str() == text).then_some(operation))
 }
 
 fn named_by(heap: Global, number: u8, text: &str) -> Result<Option<Operation>, AllocError>
     ensures { IfOk result (NamedBy number text.now) }
 {
-    for argument in 0..256u16 {
-        if let Some(operation) = named_at(heap, number, argument as u8, text)? {
+    for argument in 0..=u8::MAX {
+        if let Some(operation) = named_at(heap, number, argument, text)? {
             return Ok(Some(operation));
         }
     }

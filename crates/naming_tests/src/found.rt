@@ -26,9 +26,9 @@ fn the_first_and_the_last(rt: HostRuntime) -> Result<(), Fail> {
 fn arguments_of_every_shape(rt: HostRuntime) -> Result<(), Fail> {
     check_named(&rt, "push -3", Operation::Push(-3))?;
     check_named(&rt, "<# 255", Operation::Append(255))?;
-    let below = Operand::Own(Place::S1);
+    let below = Operand::Source(Source::Own(Place::S1));
     check_named(&rt, "sub s1", Operation::Combine(Binary::Sub, below))?;
-    let moved = Operand::Moved(Near::S2);
+    let moved = Operand::Source(Source::Moved(Near::S2));
     check_named(&rt, "add s2p", Operation::Combine(Binary::Add, moved))?;
     let greatest = Operand::Constant(Constant::Max);
     check_named(

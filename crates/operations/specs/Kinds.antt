@@ -1,5 +1,5 @@
--- The operations of one kind, each with its place among them.
-use Rattle.std.specs.Prelude.{ℕ}
+-- The operations of each kind in the order of their numbers.
+use Rattle.std.specs.Prelude.{ℕ, List, [], ◌∷◌}
 use Rattle.operations.specs.declared.kinds.Binary.{Binary}
 use Rattle.operations.specs.declared.kinds.Binary.TheVariants.{Or, And, Xor, Add, Sub, Subr, Addc, Subc, Subcr}
 use Rattle.operations.specs.declared.kinds.Fetch.{Fetch}
@@ -13,7 +13,11 @@ use Rattle.operations.specs.declared.kinds.Shift.TheVariants.{Asr, Lsr, Ror, Ror
 use Rattle.operations.specs.declared.kinds.Special.{Special}
 use Rattle.operations.specs.declared.kinds.Special.TheVariants.{FetchIp, StoreIp, FetchCount, StoreCount}
 
--- among those that make one word of two
+-- those that make one word of two
+abbrev pub binaries : List Binary
+binaries = Or ∷ And ∷ Xor ∷ Add ∷ Sub ∷ Subr ∷ Addc ∷ Subc ∷ Subcr ∷ []
+
+-- the place of one of them
 abbrev pub binary_number : Binary → ℕ
 binary_number Or = 0
 binary_number And = 1
@@ -25,13 +29,21 @@ binary_number Addc = 6
 binary_number Subc = 7
 binary_number Subcr = 8
 
--- among those that write the latch
+-- those that write the latch
+abbrev pub multiplies : List Multiply
+multiplies = Pass ∷ Mul ∷ Umul ∷ []
+
+-- the place of one of them
 abbrev pub multiply_number : Multiply → ℕ
 multiply_number Pass = 0
 multiply_number Mul = 1
 multiply_number Umul = 2
 
--- among the shifts and rotations
+-- the shifts and rotations
+abbrev pub shifts : List Shift
+shifts = Asr ∷ Lsr ∷ Ror ∷ Rorc ∷ Asl ∷ Lsl ∷ Rol ∷ Rolc ∷ []
+
+-- the place of one of them
 abbrev pub shift_number : Shift → ℕ
 shift_number Asr = 0
 shift_number Lsr = 1
@@ -42,19 +54,31 @@ shift_number Lsl = 5
 shift_number Rol = 6
 shift_number Rolc = 7
 
--- among those that count bits
+-- those that count bits
+abbrev pub scans : List Scan
+scans = First ∷ Ones ∷ []
+
+-- the place of one of them
 abbrev pub scan_number : Scan → ℕ
 scan_number First = 0
 scan_number Ones = 1
 
--- among those that fetch or store a register
+-- those that fetch or store a register
+abbrev pub specials : List Special
+specials = FetchIp ∷ StoreIp ∷ FetchCount ∷ StoreCount ∷ []
+
+-- the place of one of them
 abbrev pub special_number : Special → ℕ
 special_number FetchIp = 0
 special_number StoreIp = 1
 special_number FetchCount = 2
 special_number StoreCount = 3
 
--- among those that read the latch
+-- those that read the latch
+abbrev pub fetches : List Fetch
+fetches = Plain ∷ Negated ∷ Added ∷ Subtracted ∷ []
+
+-- the place of one of them
 abbrev pub fetch_number : Fetch → ℕ
 fetch_number Plain = 0
 fetch_number Negated = 1

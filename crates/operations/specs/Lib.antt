@@ -1,4 +1,3 @@
-pub mod Conditions
 pub mod Kinds
 pub mod Operands
 pub mod Operations

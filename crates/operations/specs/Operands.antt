@@ -50,9 +50,7 @@ encoded_source (Other stack near) = 12 + 4 * stack_number stack + near_number ne
 
 -- a place as a second operand
 abbrev pub source_operand : Source → Operand
-source_operand (Own place) = operand.Own place
-source_operand (Moved near) = operand.Moved near
-source_operand (Other stack near) = operand.Other stack near
+source_operand = operand.Source
 
 -- 0 to 27 are places, 28 to 31 the constants
 abbrev pub decoded_operand : ℕ → Option Operand
@@ -60,7 +58,5 @@ decoded_operand byte = cond (nat_lt byte 28) (option_map source_operand (decoded
 
 -- the byte of a second operand
 abbrev pub encoded_operand : Operand → ℕ
-encoded_operand (operand.Own place) = encoded_source (Own place)
-encoded_operand (operand.Moved near) = encoded_source (Moved near)
-encoded_operand (operand.Other stack near) = encoded_source (Other stack near)
+encoded_operand (operand.Source source) = encoded_source source
 encoded_operand (operand.Constant constant) = 28 + constant_number constant

@@ -1,17 +1,18 @@
 -- Operations as people write them.
 use Rattle.std.specs.Prelude.{ℕ, List, ◌++◌, codes, decimal}
-use Rattle.operations.specs.Operands.{source_operand}
 use Rattle.operations.specs.Places.{near_number, place_number, stack_number}
-use Rattle.operations.specs.Words.{binary_word, condition_word, constant_word, fetch_word, multiply_word, scan_word, shift_word, special_word}
+use Rattle.operations.specs.Words.{binary_word, constant_word, fetch_word, multiply_word, scan_word, shift_word, special_word}
 use Rattle.operations.specs.declared.operands.Operand.{Operand}
-use Rattle.operations.specs.declared.operands.Operand.TheVariants.{Own, Moved, Other, Constant}
+use Rattle.operations.specs.declared.operands.Operand.TheVariants as operand
 use Rattle.operations.specs.declared.operands.Source.{Source}
+use Rattle.operations.specs.declared.operands.Source.TheVariants.{Own, Moved, Other}
 use Rattle.operations.specs.declared.operation.Operation.{Operation}
 use Rattle.operations.specs.declared.operation.Operation.TheVariants as operation
 use Rattle.operations.specs.declared.places.Near.{Near}
 use Rattle.operations.specs.declared.places.Place.{Place}
 use Rattle.operations.specs.declared.places.StackNumber.{StackNumber}
 use Rattle.std.specs.Fmt.{signed_decimal}
+use Rattle.words.specs.Numbers.{condition_word}
 
 -- s0 to s7
 abbrev pub place_text : Place → List ℕ
@@ -25,16 +26,16 @@ near_text near = codes "s" ++ decimal (near_number near)
 abbrev pub stack_text : StackNumber → List ℕ
 stack_text stack = decimal (stack_number stack)
 
--- s1 of the own stack, s1p that is moved, 2s1 of stack 2, and constants
-abbrev pub operand_text : Operand → List ℕ
-operand_text (Own place) = place_text place
-operand_text (Moved near) = near_text near ++ codes "p"
-operand_text (Other stack near) = stack_text stack ++ near_text near
-operand_text (Constant constant) = constant_word constant
-
--- a place is written as it is among operands
+-- s1 of the own stack, s1p that is moved, 2s1 of stack 2
 abbrev pub source_text : Source → List ℕ
-source_text source = operand_text (source_operand source)
+source_text (Own place) = place_text place
+source_text (Moved near) = near_text near ++ codes "p"
+source_text (Other stack near) = stack_text stack ++ near_text near
+
+-- places and constants
+abbrev pub operand_text : Operand → List ℕ
+operand_text (operand.Source source) = source_text source
+operand_text (operand.Constant constant) = constant_word constant
 
 -- the operation's word, and its argument where it has one
 abbrev pub operation_text : Operation → List ℕ

@@ -1,4 +1,4 @@
--- The words of the operations of each kind, of the conditions and of the constants.
+-- The words of the operations of each kind and of the constants.
 use Rattle.std.specs.Prelude.{ℕ, List, codes}
 use Rattle.operations.specs.declared.kinds.Binary.{Binary}
 use Rattle.operations.specs.declared.kinds.Binary.TheVariants as binary
@@ -14,8 +14,6 @@ use Rattle.operations.specs.declared.kinds.Special.{Special}
 use Rattle.operations.specs.declared.kinds.Special.TheVariants as special
 use Rattle.operations.specs.declared.operands.Constant.{Constant}
 use Rattle.operations.specs.declared.operands.Constant.TheVariants as constant
-use Rattle.words.specs.declared.condition.Condition.{Condition}
-use Rattle.words.specs.declared.condition.Condition.TheVariants as condition
 
 -- of those that make one word of two
 abbrev pub binary_word : Binary → List ℕ
@@ -71,22 +69,3 @@ constant_word constant.Zero = codes "#0"
 constant_word constant.MinusOne = codes "#-1"
 constant_word constant.Max = codes "#$7FFFFFFF"
 constant_word constant.Min = codes "#$80000000"
-
--- of the conditions
-abbrev pub condition_word : Condition → List ℕ
-condition_word condition.True = codes "t"
-condition_word condition.Zero = codes "0="
-condition_word condition.Negative = codes "0<"
-condition_word condition.Overflow = codes "ov"
-condition_word condition.Below = codes "u<"
-condition_word condition.Above = codes "u>"
-condition_word condition.Less = codes "<"
-condition_word condition.Greater = codes ">"
-condition_word condition.False = codes "f"
-condition_word condition.NotZero = codes "0<>"
-condition_word condition.NotNegative = codes "0>="
-condition_word condition.NoOverflow = codes "no"
-condition_word condition.NotBelow = codes "u>="
-condition_word condition.NotAbove = codes "u<="
-condition_word condition.NotLess = codes ">="
-condition_word condition.NotGreater = codes "<="

@@ -1,7 +1,6 @@
 //! What a slot does: its operation, from an operation byte and an argument byte, and back.
 #![tactic(auto)]
 
-pub mod conditions;
 pub mod kinds;
 pub mod operands;
 pub mod operation;

@@ -1,9 +1,10 @@
 // Second operands: places in stacks, and four constants.
-ghost use Rattle.std.specs.Prelude.{◌≡◌, ◌<◌, IfSome, Some};
+ghost use Rattle.std.specs.Prelude.{◌≡◌};
 ghost use Rattle.operations.specs.Operands.{constant_number, constants, constant_value, decoded_operand, decoded_source, encoded_operand, encoded_source, source_operand};
 ghost use Rattle.std.specs.List.{slice_get};
 
 use super::places::{Near, Place, StackNumber};
+use codes::numbers::Numbered;
 
 #[derive(Clone, Copy, PartialEq, Eq, Debug)]
 pub enum Constant {
@@ -13,11 +14,14 @@ pub enum Constant {
     Min,
 }
 
-impl Constant {
-    pub fn from_number(number: u8) -> Option<Constant>
-        ensures value { result ≡ slice_get constants number }
-        ensures only { IfSome result (λ constant. constant_number constant ≡ number) }
-    {
+impl Numbered for Constant {
+    ghost numbered = { slice_get constants };
+
+    ghost number_of = { constant_number };
+
+    ghost bound = { 4 };
+
+    fn from_number(number: u8) -> Option<Constant> {
         match number {
             0 => Some(Constant::Zero),
             1 => Some(Constant::MinusOne),
@@ -27,14 +31,12 @@ impl Constant {
         }
     }
 
-    pub fn number(self) -> u8
-        ensures value { result ≡ constant_number self }
-        ensures back { slice_get constants result ≡ Some self }
-        ensures below { result < 4 }
-    {
+    fn number(self) -> u8 {
         self as u8
     }
+}
 
+impl Constant {
     pub fn word(self) -> u32
         ensures { result ≡ constant_value self }
     {
@@ -55,73 +57,66 @@ pub enum Source {
     Other(StackNumber, Near),
 }
 
-impl Source {
-    pub fn decode(byte: u8) -> Option<Source>
-        ensures value { result ≡ decoded_source byte }
-        ensures only { IfSome result (λ source. encoded_source source ≡ byte) }
-    {
-        if byte < 8 {
-            Some(Source::Own(Place::from_number(byte)?))
-        } else if byte < 12 {
-            Some(Source::Moved(Near::from_number(byte - 8)?))
-        } else {
-            let stack = StackNumber::from_number((byte - 12) / 4)?;
-            Some(Source::Other(stack, Near::from_number((byte - 12) % 4)?))
+impl Numbered for Source {
+    ghost numbered = { decoded_source };
+
+    ghost number_of = { encoded_source };
+
+    ghost bound = { 28 };
+
+    fn from_number(number: u8) -> Option<Source> {
+        match number {
+            0..=7 => Some(Source::Own(Place::from_number(number)?)),
+            8..=11 => Some(Source::Moved(Near::from_number(number - 8)?)),
+            _ => {
+                let stack = StackNumber::from_number((number - 12) / 4)?;
+                Some(Source::Other(stack, Near::from_number((number - 12) % 4)?))
+            }
         }
     }
 
-    pub fn encode(self) -> u8
-        ensures value { result ≡ encoded_source self }
-        ensures back { decoded_source result ≡ Some self }
-        ensures below { result < 28 }
-    {
+    fn number(self) -> u8 {
         match self {
             Source::Own(place) => place.number(),
             Source::Moved(near) => 8 + near.number(),
             Source::Other(stack, near) => 12 + 4 * stack.number() + near.number(),
         }
     }
-
-    // The same place as a second operand.
-    pub fn operand(self) -> Operand
-        ensures { result ≡ source_operand self }
-    {
-        match self {
-            Source::Own(place) => Operand::Own(place),
-            Source::Moved(near) => Operand::Moved(near),
-            Source::Other(stack, near) => Operand::Other(stack, near),
-        }
-    }
 }
 
+// What an operation has beside the top of its stack.
 #[derive(Clone, Copy, PartialEq, Eq, Debug)]
 pub enum Operand {
-    Own(Place),
-    Moved(Near),
-    Other(StackNumber, Near),
+    Source(Source),
     Constant(Constant),
 }
 
-impl Operand {
-    pub fn decode(byte: u8) -> Option<Operand>
-        ensures value { result ≡ decoded_operand byte }
-        ensures only { IfSome result (λ operand. encoded_operand operand ≡ byte) }
-    {
-        if byte < 28 {
-            Some(Source::decode(byte)?.operand())
+impl From<Source> for Operand {
+    ghost from_gives = { λ place operand. operand ≡ source_operand place };
+
+    fn from(place: Source) -> Operand {
+        Operand::Source(place)
+    }
+}
+
+impl Numbered for Operand {
+    ghost numbered = { decoded_operand };
+
+    ghost number_of = { encoded_operand };
+
+    ghost bound = { 32 };
+
+    fn from_number(number: u8) -> Option<Operand> {
+        if number < 28 {
+            Some(Operand::from(Source::from_number(number)?))
         } else {
-            Some(Operand::Constant(Constant::from_number(byte - 28)?))
+            Some(Operand::Constant(Constant::from_number(number - 28)?))
         }
     }
 
-    pub fn encode(self) -> u8
-        ensures value { result ≡ encoded_operand self }
-        ensures back { decoded_operand result ≡ Some self }
-    {
+    fn number(self) -> u8 {
         match self {
-            Operand::Own(place) => Source::Own(place).encode(),
-            Operand::Moved(near) => Source::Moved(near).encode(),
-            Operand::Other(stack, near) => Source::Other(stack, near).encode(),
+            Operand::Source(source) => source.number(),
             Operand::Constant(constant) => 28 + constant.number(),
         }
     }

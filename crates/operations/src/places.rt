@@ -1,7 +1,8 @@
 // Places in stacks, and the stacks by number.
-ghost use Rattle.std.specs.Prelude.{◌≡◌, ◌<◌, IfSome, Some};
 ghost use Rattle.operations.specs.Places.{near_number, nears, place_number, places, stack_number, stacks};
 ghost use Rattle.std.specs.List.{slice_get};
+
+use codes::numbers::Numbered;
 
 // The eight topmost words of a stack; s0 is the top.
 #[derive(Clone, Copy, PartialEq, Eq, Debug)]
@@ -16,11 +17,14 @@ pub enum Place {
     S7,
 }
 
-impl Place {
-    pub fn from_number(number: u8) -> Option<Place>
-        ensures value { result ≡ slice_get places number }
-        ensures only { IfSome result (λ place. place_number place ≡ number) }
-    {
+impl Numbered for Place {
+    ghost numbered = { slice_get places };
+
+    ghost number_of = { place_number };
+
+    ghost bound = { 8 };
+
+    fn from_number(number: u8) -> Option<Place> {
         match number {
             0 => Some(Place::S0),
             1 => Some(Place::S1),
@@ -34,11 +38,7 @@ impl Place {
         }
     }
 
-    pub fn number(self) -> u8
-        ensures value { result ≡ place_number self }
-        ensures back { slice_get places result ≡ Some self }
-        ensures below { result < 8 }
-    {
+    fn number(self) -> u8 {
         self as u8
     }
 }
@@ -52,11 +52,14 @@ pub enum Near {
     S3,
 }
 
-impl Near {
-    pub fn from_number(number: u8) -> Option<Near>
-        ensures value { result ≡ slice_get nears number }
-        ensures only { IfSome result (λ near. near_number near ≡ number) }
-    {
+impl Numbered for Near {
+    ghost numbered = { slice_get nears };
+
+    ghost number_of = { near_number };
+
+    ghost bound = { 4 };
+
+    fn from_number(number: u8) -> Option<Near> {
         match number {
             0 => Some(Near::S0),
             1 => Some(Near::S1),
@@ -66,11 +69,7 @@ impl Near {
         }
     }
 
-    pub fn number(self) -> u8
-        ensures value { result ≡ near_number self }
-        ensures back { slice_get nears result ≡ Some self }
-        ensures below { result < 4 }
-    {
+    fn number(self) -> u8 {
         self as u8
     }
 }
@@ -83,11 +82,14 @@ pub enum StackNumber {
     Three,
 }
 
-impl StackNumber {
-    pub fn from_number(number: u8) -> Option<StackNumber>
-        ensures value { result ≡ slice_get stacks number }
-        ensures only { IfSome result (λ stack. stack_number stack ≡ number) }
-    {
+impl Numbered for StackNumber {
+    ghost numbered = { slice_get stacks };
+
+    ghost number_of = { stack_number };
+
+    ghost bound = { 4 };
+
+    fn from_number(number: u8) -> Option<StackNumber> {
         match number {
             0 => Some(StackNumber::Zero),
             1 => Some(StackNumber::One),
@@ -97,11 +99,7 @@ impl StackNumber {
         }
     }
 
-    pub fn number(self) -> u8
-        ensures value { result ≡ stack_number self }
-        ensures back { slice_get stacks result ≡ Some self }
-        ensures below { result < 4 }
-    {
+    fn number(self) -> u8 {
         self as u8
     }
 }

@@ -5,10 +5,7 @@ ghost use Rattle.std.specs.Prelude.{Some};
 use super::operands::{Operand, Source};
 use super::operation::Operation;
 use super::places::{Near, Place, StackNumber};
-use super::wording::{
-    binary_word, condition_word, constant_word, fetch_word, multiply_word, scan_word, shift_word,
-    special_word,
-};
+use codes::numbers::Numbered;
 use std::fmt;
 
 impl fmt::Display for Place {
@@ -52,10 +49,8 @@ impl fmt::Display for Operand {
 
     fn fmt<W: fmt::Write>(&self, f: &mut fmt::Formatter<W>) -> fmt::Result {
         match self {
-            Operand::Own(place) => write!(f, "{place}"),
-            Operand::Moved(near) => write!(f, "{near}p"),
-            Operand::Other(stack, near) => write!(f, "{stack}{near}"),
-            Operand::Constant(constant) => f.write_str(constant_word(*constant)),
+            Operand::Source(source) => write!(f, "{source}"),
+            Operand::Constant(constant) => write!(f, "{constant}"),
         }
     }
 }
@@ -68,19 +63,15 @@ impl fmt::Display for Operation {
             Operation::Nop => f.write_str("nop"),
             Operation::Push(value) => write!(f, "push {value}"),
             Operation::Append(byte) => write!(f, "<# {byte}"),
-            Operation::Combine(binary, operand) => write!(f, "{} {operand}", binary_word(*binary)),
-            Operation::Latch(multiply, operand) => write!(
-                f,
-                "{} {operand}",
-                multiply_word(*multiply)
-            ),
+            Operation::Combine(binary, operand) => write!(f, "{binary} {operand}"),
+            Operation::Latch(multiply, operand) => write!(f, "{multiply} {operand}"),
             Operation::Pick(source) => write!(f, "pick {source}"),
             Operation::Pin(place) => write!(f, "pin {place}"),
-            Operation::Flag(condition) => f.write_str(condition_word(*condition)),
-            Operation::Shift(shift) => f.write_str(shift_word(*shift)),
-            Operation::Scan(scan) => f.write_str(scan_word(*scan)),
-            Operation::Special(special) => f.write_str(special_word(*special)),
-            Operation::Fetch(fetch) => f.write_str(fetch_word(*fetch)),
+            Operation::Flag(condition) => write!(f, "{condition}"),
+            Operation::Shift(shift) => write!(f, "{shift}"),
+            Operation::Scan(scan) => write!(f, "{scan}"),
+            Operation::Special(special) => write!(f, "{special}"),
+            Operation::Fetch(fetch) => write!(f, "{fetch}"),
         }
     }
 }

@@ -5,3 +5,4 @@ pub mod Comparisons
 pub mod Shifts
 pub mod Bits
 pub mod Latch
+pub mod Numbers

@@ -1,5 +1,5 @@
--- The sixteen conditions in the order of their numbers; the one numbered k + 8 is the opposite of k.
-use Rattle.std.specs.Prelude.{ℕ, List, [], ◌∷◌}
+-- The sixteen conditions in the order of their numbers, and their words; the one numbered k + 8 is the opposite of k.
+use Rattle.std.specs.Prelude.{ℕ, List, [], ◌∷◌, codes}
 use Rattle.words.specs.declared.condition.Condition.{Condition}
 use Rattle.words.specs.declared.condition.Condition.TheVariants.{True, Zero, Negative, Overflow, Below, Above, Less, Greater, False, NotZero, NotNegative, NoOverflow, NotBelow, NotAbove, NotLess, NotGreater}
 
@@ -25,3 +25,22 @@ condition_number NotBelow = 12
 condition_number NotAbove = 13
 condition_number NotLess = 14
 condition_number NotGreater = 15
+
+-- their words
+abbrev pub condition_word : Condition → List ℕ
+condition_word True = codes "t"
+condition_word Zero = codes "0="
+condition_word Negative = codes "0<"
+condition_word Overflow = codes "ov"
+condition_word Below = codes "u<"
+condition_word Above = codes "u>"
+condition_word Less = codes "<"
+condition_word Greater = codes ">"
+condition_word False = codes "f"
+condition_word NotZero = codes "0<>"
+condition_word NotNegative = codes "0>="
+condition_word NoOverflow = codes "no"
+condition_word NotBelow = codes "u>="
+condition_word NotAbove = codes "u<="
+condition_word NotLess = codes ">="
+condition_word NotGreater = codes "<="
