@@ -1,14 +1,15 @@
 -- What the code asks of a block is what opening asks, and what a block that passes is known by.
-use Rattle.std.proofs.Common.{◌≡◌, ℕ, ◌-◌, Bool, true, eqb, List, [], ◌∷◌, length, get_or, take, drop, Some, None}
+use Rattle.std.proofs.Common.{◌≡◌, ℕ, Bool, true, false, Option, eqb, ok_or, Ok, refl, cond, ℕ, List, [], ◌∷◌, length, get_or, take, Some, None}
 use Rattle.std.specs.List.{between}
-use Rattle.std.proofs.lemmas.Bool.{eq-eqb, ne_eqb, eqb-true}
+use Rattle.std.proofs.lemmas.Bool.{eq-eqb, eqb-true}
 use Rattle.questions.specs.Questions.{first_no}
 use Rattle.questions.proofs.Answered.{passed}
 use Rattle.blocks.specs.declared.refusals.BlockRefusal.TheVariants.{NotWhole, WrongKind, WrongEdition, WrongPlace, NotZero, WrongCheck}
 use Rattle.blocks.specs.Asking.{opening}
 use Rattle.blocks.specs.Check.{check_word}
 use Rattle.blocks.specs.Layout.{two_at, four_at, all_zero}
-use Rattle.blocks.proofs.Parts.{zeros_part}
+use Rattle.blocks.specs.Headers.{headed}
+use Rattle.blocks.specs.declared.headers.Header.{Header}
 
 -- a block that passed every question
 pub record Sound (kind place : ℕ) (xs : List ℕ) : Type 0 where
@@ -19,19 +20,18 @@ pub record Sound (kind place : ℕ) (xs : List ℕ) : Type 0 where
   pub zeros_are : all_zero (between 4 12 xs) ≡ true
   pub check_is : four_at xs 508 ≡ check_word (take 508 xs)
 
-module _ (kind place : ℕ) (xs : List ℕ) where
-  -- the code's questions, with what it worked out for them
-  pub asked : length xs ≡ 512 → (found number stored word : ℕ) (zeros : Bool) → found ≡ kind → number ≡ two_at xs 2 → zeros ≡ all_zero (take 8 (take (length xs - 4) (drop 4 xs))) → stored ≡ four_at xs 508 → word ≡ check_word (take 508 xs)
-      → first_no ((eqb (get_or xs 0 0) found, WrongKind) ∷ (eqb (get_or xs 1 0) 1, WrongEdition) ∷ (eqb number place, WrongPlace) ∷ (zeros, NotZero) ∷ (eqb stored word, WrongCheck) ∷ [])
-      ≡ opening kind place xs
-  unfolding opening
-  asked long found number stored word zeros f n z s w =
-      let b = zeros_part xs long in
-      rw (f, n, z, s, w, b) (rw (eq-eqb (length xs) 512 long))
+-- what was there under a condition
+some_if : {R X : Type 0} (b : Bool) (x y : X) (r : R) → ok_or (cond b (Some x) None) r ≡ Ok y → (b ≡ true) × (x ≡ y)
+some_if true x y r e = (refl, cc)
+some_if false x y r e = cc
 
-  pub not_whole : (length xs ≡ 512 → ⊥) → opening kind place xs ≡ Some NotWhole
+module _ (kind place : ℕ) (xs : List ℕ) where
+  -- what the code is left to ask of a whole block, by its header and with what it worked out
+  pub whole : (o : Option Header) (h : Header) → o ≡ headed xs → ok_or o NotWhole ≡ Ok h → (byte word : ℕ) (zeros : Bool) → byte ≡ kind → zeros ≡ all_zero (between 4 12 xs) → word ≡ check_word (take 508 xs)
+      → opening kind place xs
+      ≡ first_no ((eqb h.kind byte, WrongKind) ∷ (eqb h.edition 1, WrongEdition) ∷ (eqb h.number place, WrongPlace) ∷ (zeros, NotZero) ∷ (eqb h.check word, WrongCheck) ∷ [])
   unfolding opening
-  not_whole short = rw (ne_eqb (length xs) 512 short)
+  whole o h is e byte word zeros b z w = let p = some_if _ _ _ _ (rw is at e) in rw (b, z, w) (rw (p.0, ← p.1))
 
   pub sound : opening kind place xs ≡ None → Sound kind place xs
   unfolding opening

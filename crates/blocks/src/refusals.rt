@@ -1,7 +1,8 @@
 // The questions that sealing and opening ask, by the numbers under which they refuse.
-ghost use Rattle.std.specs.Prelude.{◌≡◌};
-ghost use Rattle.blocks.specs.Refusals.{seal_number, seal_question, block_number, block_question};
+ghost use Rattle.std.specs.Prelude.{Some};
+ghost use Rattle.blocks.specs.Refusals.{seal_number, seal_question, seal_text, block_number, block_question, block_text};
 
+use questions::refusals::Refusal;
 use std::fmt;
 
 // Why a payload is not sealed.
@@ -12,16 +13,16 @@ pub enum SealRefusal {
     TargetLength = 3,
 }
 
-impl SealRefusal {
-    pub fn number(self) -> u16
-        ensures { result ≡ seal_number self }
-    {
+impl Refusal for SealRefusal {
+    ghost number = { seal_number };
+
+    ghost question = { seal_question };
+
+    fn number(self) -> u16 {
         self as u16
     }
 
-    fn question(self) -> &'static str
-        ensures { result.now ≡ seal_question self }
-    {
+    fn question(self) -> &'static str {
         match self {
             SealRefusal::UnknownKind => "Is the kind 1 (code) or 2 (table)?",
             SealRefusal::PayloadLength => "Does the payload have 496 bytes?",
@@ -31,8 +32,10 @@ impl SealRefusal {
 }
 
 impl fmt::Display for SealRefusal {
+    ghost output = { λ refusal. Some (seal_text refusal) };
+
     fn fmt<W: fmt::Write>(&self, f: &mut fmt::Formatter<W>) -> fmt::Result {
-        write!(f, "{}: {}", self.number(), self.question())
+        self.show(f)
     }
 }
 
@@ -47,16 +50,16 @@ pub enum BlockRefusal {
     WrongCheck = 9,
 }
 
-impl BlockRefusal {
-    pub fn number(self) -> u16
-        ensures { result ≡ block_number self }
-    {
+impl Refusal for BlockRefusal {
+    ghost number = { block_number };
+
+    ghost question = { block_question };
+
+    fn number(self) -> u16 {
         self as u16
     }
 
-    fn question(self) -> &'static str
-        ensures { result.now ≡ block_question self }
-    {
+    fn question(self) -> &'static str {
         match self {
             BlockRefusal::NotWhole => "Is it a whole block of 512 bytes?",
             BlockRefusal::WrongKind => "Is the kind the one asked for?",
@@ -69,7 +72,9 @@ impl BlockRefusal {
 }
 
 impl fmt::Display for BlockRefusal {
+    ghost output = { λ refusal. Some (block_text refusal) };
+
     fn fmt<W: fmt::Write>(&self, f: &mut fmt::Formatter<W>) -> fmt::Result {
-        write!(f, "{}: {}", self.number(), self.question())
+        self.show(f)
     }
 }

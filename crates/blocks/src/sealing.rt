@@ -17,11 +17,9 @@ pub fn seal(kind: u8, number: u16, payload: &[u8], target: &mut [u8]) -> Result<
     ensures after { target.new ≡ held_after (asks kind payload.now target.old) (sealed kind number payload.now) target.old }
     ensures back { result ≡ Ok tt → opened kind number target.new ≡ Ok payload.now }
 {
-    ask(&[
-        (Kind::named(kind).is_some(), SealRefusal::UnknownKind),
-        (payload.len() == PAYLOAD, SealRefusal::PayloadLength),
-        (target.len() == BLOCK, SealRefusal::TargetLength),
-    ])?;
+    ask(Kind::named(kind).is_some(), SealRefusal::UnknownKind)?;
+    ask(payload.len() == PAYLOAD, SealRefusal::PayloadLength)?;
+    ask(target.len() == BLOCK, SealRefusal::TargetLength)?;
     lay(kind, number, payload, target);
     Ok(())
 }

@@ -25,3 +25,12 @@ verb_named = named (
 -- the kind that a word names
 abbrev pub kind_word : List ℕ → Option Kind
 kind_word = named ((codes "code", Code) ∷ (codes "table", Table) ∷ [])
+
+-- how the command of a verb is written
+abbrev pub verb_form : Verb → List ℕ
+verb_form Seal = codes "seal code|table IN OUT"
+verb_form Check = codes "check IMAGE"
+verb_form Show = codes "show IMAGE [--payload]"
+verb_form Lists = codes "list IMAGE"
+verb_form Read = codes "read IMAGE ADDRESS [COUNT]"
+verb_form Help = codes "help"

@@ -1,8 +1,10 @@
 // The words that commands begin with.
-ghost use Rattle.std.specs.Prelude.{◌≡◌};
-ghost use Rattle.commands.specs.Verbs.{verb_named};
+ghost use Rattle.std.specs.Prelude.{◌≡◌, Some};
+ghost use Rattle.std.specs.Result.{result_ok};
+ghost use Rattle.commands.specs.Verbs.{verb_form, verb_named};
 
 use std::fmt;
+use std::str::FromStr;
 
 #[derive(Clone, Copy, PartialEq, Eq, Debug)]
 pub enum Verb {
@@ -14,33 +16,40 @@ pub enum Verb {
     Help,
 }
 
-impl Verb {
-    // The verb that a word names.
-    pub fn named(word: &str) -> Option<Verb>
-        ensures { result ≡ verb_named word.now }
-    {
+// A word with which no command begins.
+#[derive(Clone, Copy, PartialEq, Eq, Debug)]
+pub struct UnknownVerb;
+
+impl FromStr for Verb {
+    type Err = UnknownVerb;
+
+    ghost from_str_gives = { λ word verb. result_ok verb ≡ verb_named word };
+
+    fn from_str(word: &str) -> Result<Verb, UnknownVerb> {
         match word {
-            "seal" => Some(Verb::Seal),
-            "check" => Some(Verb::Check),
-            "show" => Some(Verb::Show),
-            "list" => Some(Verb::List),
-            "read" => Some(Verb::Read),
-            "help" => Some(Verb::Help),
-            _ => None,
+            "seal" => Ok(Verb::Seal),
+            "check" => Ok(Verb::Check),
+            "show" => Ok(Verb::Show),
+            "list" => Ok(Verb::List),
+            "read" => Ok(Verb::Read),
+            "help" => Ok(Verb::Help),
+            _ => Err(UnknownVerb),
         }
     }
 }
 
 // How the command is written.
 impl fmt::Display for Verb {
+    ghost output = { λ verb. Some (verb_form verb) };
+
     fn fmt<W: fmt::Write>(&self, f: &mut fmt::Formatter<W>) -> fmt::Result {
-        match self {
-            Verb::Seal => write!(f, "seal code|table IN OUT"),
-            Verb::Check => write!(f, "check IMAGE"),
-            Verb::Show => write!(f, "show IMAGE [--payload]"),
-            Verb::List => write!(f, "list IMAGE"),
-            Verb::Read => write!(f, "read IMAGE ADDRESS [COUNT]"),
-            Verb::Help => write!(f, "help"),
-        }
+        f.write_str(match self {
+            Verb::Seal => "seal code|table IN OUT",
+            Verb::Check => "check IMAGE",
+            Verb::Show => "show IMAGE [--payload]",
+            Verb::List => "list IMAGE",
+            Verb::Read => "read IMAGE ADDRESS [COUNT]",
+            Verb::Help => "help",
+        })
     }
 }

@@ -4,7 +4,9 @@ use Rattle.std.specs.Prelude.{ℕ, List, [], ◌∷◌, Some, None, Option}
 use Rattle.operations.specs.Operands.{constant_value}
 use Rattle.operations.specs.Places.{near_number, place_number, stack_number}
 use Rattle.operations.specs.declared.operands.Operand.{Operand}
-use Rattle.operations.specs.declared.operands.Operand.TheVariants.{Own, Moved, Other, Constant}
+use Rattle.operations.specs.declared.operands.Operand.TheVariants.{Source, Constant}
+use Rattle.operations.specs.declared.operands.Source.{Source as Place}
+use Rattle.operations.specs.declared.operands.Source.TheVariants.{Own, Moved, Other}
 use Rattle.operations.specs.declared.places.Near.{Near}
 use Rattle.operations.specs.declared.places.Near.TheVariants.{S0, S1, S2, S3}
 use Rattle.operations.specs.declared.places.StackNumber.{StackNumber}
@@ -38,11 +40,15 @@ moved S3 (x3 ∷ x2 ∷ []) = None
 moved S3 (x3 ∷ x2 ∷ x1 ∷ []) = None
 moved S3 (x3 ∷ x2 ∷ x1 ∷ x0 ∷ xs) = Some (x0 ∷ x3 ∷ x2 ∷ x1 ∷ xs)  -- x0 x1 x2 x3 — x1 x2 x3 x0
 
--- an operand's stack effect; nothing where words lack, of the own stack or of another
+-- the stack effect of a place; nothing where words lack, of the own stack or of another
+abbrev pub placed : Place → List ℕ → (StackNumber → List ℕ) → Option (List ℕ)
+placed (Own place) xs all = onto (slice_get xs (place_number place)) xs  -- s1: x0 x1 — x0 x1 x0
+placed (Moved near) xs all = moved near xs
+placed (Other stack near) xs all = onto (slice_get (all stack) (near_number near)) xs
+
+-- an operand's stack effect: that of its place, or a constant on top
 abbrev pub effect : Operand → List ℕ → (StackNumber → List ℕ) → Option (List ℕ)
-effect (Own place) xs all = onto (slice_get xs (place_number place)) xs  -- s1: x0 x1 — x0 x1 x0
-effect (Moved near) xs all = moved near xs
-effect (Other stack near) xs all = onto (slice_get (all stack) (near_number near)) xs
+effect (Source place) xs all = placed place xs all
 effect (Constant constant) xs all = Some (constant_value constant ∷ xs)
 
 -- an operation's words: n2 is the top, n1 the word below it

@@ -1,10 +1,10 @@
 // What a pick makes of its stack: the effect of a place, as a change.
 ghost use Rattle.std.specs.Prelude.{◌≡◌, [], ◌∷◌};
-ghost use Rattle.effects.specs.Operands.{effect, moved, words_of};
+ghost use Rattle.effects.specs.Operands.{placed, moved, words_of};
 ghost use Rattle.effects.specs.Reading.{read_change};
-ghost use Rattle.operations.specs.Operands.{source_operand};
 
 use super::reach::Reach;
+use codes::numbers::Numbered;
 use operations::operands::Source;
 use operations::places::Near;
 use stacks::changes::{Change, Few};
@@ -26,7 +26,7 @@ fn move_up(own: &Words, near: Near) -> Option<Change>
 impl Reach<'_> {
     // The change that a source makes of its stack when it is picked.
     pub fn source_change(&self, source: Source) -> Option<Change>
-        ensures { read_change result self.now.own.now ≡ effect (source_operand source) self.now.own.now (words_of self.now.stacks.now) }
+        ensures { read_change result self.now.own.now ≡ placed source self.now.own.now (words_of self.now.stacks.now) }
     {
         let copied = match source {
             Source::Own(place) => self.own.get(place.number() as usize),

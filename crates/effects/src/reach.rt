@@ -6,6 +6,7 @@ ghost use Rattle.operations.specs.Places.{near_number, stack_number};
 ghost use Rattle.stacks.specs.Stacks.{stack_at};
 ghost use Rattle.std.specs.List.{slice_get};
 
+use codes::numbers::Numbered;
 use operations::places::{Near, StackNumber};
 use stacks::contents::Words;
 use stacks::stack::Stack;

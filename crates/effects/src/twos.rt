@@ -6,7 +6,8 @@ ghost use Rattle.effects.specs.Reading.{read_two, under_words};
 ghost use Rattle.stacks.specs.Changes.{few_words};
 
 use super::reach::Reach;
-use operations::operands::Operand;
+use codes::numbers::Numbered;
+use operations::operands::{Operand, Source};
 use operations::places::Near;
 use stacks::changes::Few;
 use stacks::contents::Words;
@@ -86,10 +87,10 @@ impl Reach<'_> {
         ensures copies { Copies }
     {
         let n2 = match operand {
-            Operand::Own(place) => self.own.get(place.number() as usize)?,
-            Operand::Other(stack, near) => self.other_word(stack, near)?,
+            Operand::Source(Source::Own(place)) => self.own.get(place.number() as usize)?,
+            Operand::Source(Source::Other(stack, near)) => self.other_word(stack, near)?,
+            Operand::Source(Source::Moved(near)) => return moved_two(self.own, near),
             Operand::Constant(constant) => constant.word(),
-            Operand::Moved(near) => return moved_two(self.own, near),
         };
         below(self.own, n2)
     }

@@ -22,6 +22,10 @@ blocks_in image = length image / 512
 abbrev pub sizes : Kind → ℕ → List (Bool × ImageRefusal)
 sizes kind blocks = (nat_le 1 blocks, Length) ∷ (nat_le blocks (most_blocks kind), Length) ∷ []
 
+-- the first no to an image's length
+abbrev pub measured : Kind → List ℕ → Option ImageRefusal
+measured kind image = first_no (((length image % 512 == 0), Length) ∷ sizes kind (blocks_in image))
+
 -- a refusal of the block at a place
 abbrev pub in_block : ℕ → Option BlockRefusal → Option ImageRefusal
 in_block place None = None
@@ -34,7 +38,7 @@ blocks_asked kind place (suc n) bytes = or_else (in_block place (opening kind pl
 
 -- the first no to an image: is it as many whole blocks as it may be, and does each one open?
 abbrev pub checking : Kind → List ℕ → Option ImageRefusal
-checking kind image = or_else (first_no (((length image % 512 == 0), Length) ∷ sizes kind (blocks_in image))) (blocks_asked (kind_byte kind) 0 (blocks_in image) image)
+checking kind image = or_else (measured kind image) (blocks_asked (kind_byte kind) 0 (blocks_in image) image)
 
 -- the payloads of some blocks, one after the other
 abbrev pub payloads_of : ℕ → List ℕ → List ℕ

@@ -1,9 +1,9 @@
 // An image accepted, or refused at the first no.
 ghost use Rattle.std.specs.Prelude.{◌≡◌, ◌+◌, ◌*◌, ◌/◌, ◌<◌, ◌≤◌, length};
-ghost use Rattle.questions.specs.Questions.{answered};
+ghost use Rattle.questions.specs.Questions.{answered, first_no};
 ghost use Rattle.blocks.specs.Asking.{opening};
 ghost use Rattle.blocks.specs.Kinds.{kind_byte};
-ghost use Rattle.images.specs.Images.{kind_of, in_block, blocks_in, checking as asks};
+ghost use Rattle.images.specs.Images.{kind_of, in_block, blocks_in, sizes, measured, checking as asks};
 
 use super::refusals::ImageRefusal;
 use blocks::kinds::Kind;
@@ -25,16 +25,29 @@ pub fn kind_of(image: &[u8]) -> Kind
     }
 }
 
+// How many blocks an image has that is as long as one may be.
+pub fn count_blocks(kind: Kind, image: &[u8]) -> Result<usize, ImageRefusal>
+    ensures { result ≡ answered (measured kind image.now) (blocks_in image.now) }
+{
+    ask(image.len() % BLOCK == 0, ImageRefusal::Length)?;
+    let blocks = image.len() / BLOCK;
+    ask_size(kind, blocks)?;
+    Ok(blocks)
+}
+
+// May an image have as many blocks?
+pub(crate) fn ask_size(kind: Kind, blocks: usize) -> Result<(), ImageRefusal>
+    ensures { result ≡ answered (first_no (sizes kind blocks)) tt }
+{
+    ask(1 <= blocks, ImageRefusal::Length)?;
+    ask(blocks <= kind.most_blocks(), ImageRefusal::Length)
+}
+
 // How many blocks an image has that is accepted.
 pub fn check(kind: Kind, image: &[u8]) -> Result<usize, ImageRefusal>
     ensures { result ≡ answered (asks kind image.now) (blocks_in image.now) }
 {
-    let blocks = image.len() / BLOCK;
-    ask(&[
-        (image.len() % BLOCK == 0, ImageRefusal::Length),
-        (1 <= blocks, ImageRefusal::Length),
-        (blocks <= kind.most_blocks(), ImageRefusal::Length),
-    ])?;
+    let blocks = count_blocks(kind, image)?;
     for place in 0..blocks {
         let from = BLOCK * place;
         check_block(kind, place as u16, &image[from..from + BLOCK])?;

@@ -4,11 +4,11 @@ ghost use Rattle.questions.specs.Questions.{first_no};
 ghost use Rattle.images.specs.Answers.{Gives};
 ghost use Rattle.images.specs.Images.{blocks_for, filled_to, read_back, sealed_all, sizes};
 
-use super::refusals::{ImageError, ImageRefusal};
+use super::checking::ask_size;
+use super::refusals::ImageError;
 use blocks::kinds::Kind;
 use blocks::layout::PAYLOAD;
 use blocks::sealing::seal_block;
-use questions::ask;
 use std::alloc::Global;
 
 // Cuts bytes into payloads, the last one filled up with zeros, and seals them in order, numbers from 0.
@@ -17,10 +17,7 @@ pub fn seal_all(heap: Global, kind: Kind, bytes: &[u8]) -> Result<Vec<u8>, Image
     ensures back { IfOk result (λ image. read_back kind image.items ≡ Ok (filled_to (496 * blocks_for bytes.now) bytes.now)) }
 {
     let blocks = bytes.len().div_ceil(PAYLOAD);
-    ask(&[
-        (1 <= blocks, ImageRefusal::Length),
-        (blocks <= kind.most_blocks(), ImageRefusal::Length),
-    ])?;
+    ask_size(kind, blocks)?;
     let mut image = Vec::new(heap);
     for place in 0..blocks {
         let from = PAYLOAD * place;

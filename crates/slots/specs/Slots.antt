@@ -4,7 +4,6 @@ use Rattle.std.specs.Prelude.{ℕ, ◌*◌, ◌/◌, true, false, cond, List, []
 use Rattle.std.specs.Int.{w32}
 use Rattle.std.proofs.Common.{of_z}
 use Rattle.alu.specs.Alu.{append, combine, fetched, flag_of, scanned, shifted}
-use Rattle.operations.specs.Operands.{source_operand}
 use Rattle.operations.specs.Places.{place_number}
 use Rattle.operations.specs.declared.kinds.Binary.{Binary}
 use Rattle.operations.specs.declared.kinds.Fetch.{Fetch}
@@ -17,7 +16,7 @@ use Rattle.operations.specs.declared.kinds.Special.TheVariants.{FetchIp, StoreIp
 use Rattle.operations.specs.declared.operation.Operation.{Operation}
 use Rattle.operations.specs.declared.operation.Operation.TheVariants as operation
 use Rattle.operations.specs.declared.places.StackNumber.{StackNumber}
-use Rattle.effects.specs.Operands.{TopTwo, effect, top_two, top_two_of}
+use Rattle.effects.specs.Operands.{TopTwo, effect, placed, top_two, top_two_of}
 use Rattle.drafts.specs.Shown.{Shown, faulty, flagged, plain, with_words}
 use Rattle.drafts.specs.declared.draft.SlotFault.TheVariants.{Lacking, Crowded}
 use Rattle.stacks.specs.Changes.{pinned}
@@ -132,7 +131,7 @@ operated (operation.Push n) h all latch next = Some (plain h (of_z w32 n ∷ h.w
 operated (operation.Append byte) h all latch next = appending byte h h.words
 operated (operation.Combine binary operand) h all latch next = combining binary h (top_two_of (effect operand h.words all))
 operated (operation.Latch multiply operand) h all latch next = latching multiply h (top_two_of (effect operand h.words all))
-operated (operation.Pick source) h all latch next = picking h (effect (source_operand source) h.words all)
+operated (operation.Pick source) h all latch next = picking h (placed source h.words all)
 operated (operation.Pin place) h all latch next = pinning (place_number place) h
 operated (operation.Flag condition) h all latch next = flagging condition h h.words
 operated (operation.Shift shift) h all latch next = shifting shift h h.words

@@ -1,12 +1,12 @@
 // Operations that move words within their stack or copy one to its top.
 ghost use Rattle.std.specs.Prelude.{◌≡◌};
-ghost use Rattle.operations.specs.Operands.{source_operand};
 ghost use Rattle.operations.specs.Places.{place_number};
-ghost use Rattle.effects.specs.Operands.{effect, words_of};
+ghost use Rattle.effects.specs.Operands.{placed, words_of};
 ghost use Rattle.slots.specs.Left.{left};
 ghost use Rattle.slots.specs.Slots.{picking, pinning};
 
 use super::slot::Slot;
+use codes::numbers::Numbered;
 use drafts::draft::Draft;
 use operations::operands::Source;
 use operations::places::Place;
@@ -15,7 +15,7 @@ use stacks::stack::Stack;
 
 impl Slot<'_> {
     pub fn pick(&self, source: Source) -> Option<Draft>
-        ensures { left result self.now.own.now ≡ picking self.now.own.now (effect (source_operand source) self.now.own.now.words (words_of self.now.stacks.now)) }
+        ensures { left result self.now.own.now ≡ picking self.now.own.now (placed source self.now.own.now.words (words_of self.now.stacks.now)) }
     {
         let change = self.reach().source_change(source)?;
         Some(Draft::changed(self.own, change))

@@ -1,6 +1,6 @@
 use crate::rows::{Row, leaves, makes};
 use operations::kinds::Binary;
-use operations::operands::{Constant, Operand};
+use operations::operands::{Constant, Operand, Source};
 use operations::operation::Operation;
 use operations::places::{Near, Place, StackNumber};
 use std::process::Abort;
@@ -29,8 +29,8 @@ fn combine<'a>(
 // n1 is the top before the operand, n2 the operand.
 #[test]
 fn subtracts(rt: HostRuntime) {
-    let own = Operand::Own(Place::S1);
-    let moved = Operand::Moved(Near::S0);
+    let own = Operand::Source(Source::Own(Place::S1));
+    let moved = Operand::Source(Source::Moved(Near::S0));
     combine(
         &rt,
         Binary::Sub,
@@ -92,7 +92,7 @@ fn subtracts(rt: HostRuntime) {
 
 #[test]
 fn adds(rt: HostRuntime) {
-    let other = Operand::Other(StackNumber::One, Near::S3);
+    let other = Operand::Source(Source::Other(StackNumber::One, Near::S3));
     combine(&rt, Binary::Add, other, &[5], true, &[16], (false, false));
     combine(&rt, Binary::Addc, other, &[5], true, &[17], (false, false));
     combine(
@@ -116,7 +116,7 @@ fn adds(rt: HostRuntime) {
     combine(
         &rt,
         Binary::Add,
-        Operand::Own(Place::S0),
+        Operand::Source(Source::Own(Place::S0)),
         &[0x8000_0000],
         false,
         &[0],
@@ -126,7 +126,7 @@ fn adds(rt: HostRuntime) {
 
 #[test]
 fn joins_bits(rt: HostRuntime) {
-    let own = Operand::Own(Place::S1);
+    let own = Operand::Source(Source::Own(Place::S1));
     makes(
         &rt,
         Operation::Combine(Binary::Or, own),
@@ -159,25 +159,25 @@ fn moves_operands(rt: HostRuntime) {
     let before = [1, 2, 3, 4];
     makes(
         &rt,
-        Operation::Combine(Binary::Or, Operand::Moved(Near::S1)),
+        Operation::Combine(Binary::Or, Operand::Source(Source::Moved(Near::S1))),
         &before,
         &[1, 2, 7],
     );
     makes(
         &rt,
-        Operation::Combine(Binary::Or, Operand::Moved(Near::S2)),
+        Operation::Combine(Binary::Or, Operand::Source(Source::Moved(Near::S2))),
         &before,
         &[1, 3, 6],
     );
     makes(
         &rt,
-        Operation::Combine(Binary::Or, Operand::Moved(Near::S3)),
+        Operation::Combine(Binary::Or, Operand::Source(Source::Moved(Near::S3))),
         &before,
         &[2, 3, 5],
     );
     makes(
         &rt,
-        Operation::Combine(Binary::Or, Operand::Own(Place::S3)),
+        Operation::Combine(Binary::Or, Operand::Source(Source::Own(Place::S3))),
         &before,
         &[1, 2, 3, 5],
     );

@@ -24,7 +24,7 @@ fn crowds(rt: HostRuntime) -> Result<(), Fail> {
     works(&rt, Operation::Fetch(Fetch::Added), filled(64), 64);
     works(
         &rt,
-        Operation::Combine(Binary::Add, Operand::Own(Place::S0)),
+        Operation::Combine(Binary::Add, Operand::Source(Source::Own(Place::S0))),
         filled(64),
         64,
     );
@@ -67,27 +67,27 @@ fn lacks_one(rt: HostRuntime) -> Result<(), Fail> {
     let needs = [
         (Operation::Fetch(Fetch::Subtracted), 2, 2),
         (
-            Operation::Combine(Binary::Add, Operand::Own(Place::S7)),
+            Operation::Combine(Binary::Add, Operand::Source(Source::Own(Place::S7))),
             8,
             8,
         ),
         (
-            Operation::Combine(Binary::Add, Operand::Moved(Near::S0)),
+            Operation::Combine(Binary::Add, Operand::Source(Source::Moved(Near::S0))),
             2,
             1,
         ),
         (
-            Operation::Combine(Binary::Add, Operand::Moved(Near::S1)),
+            Operation::Combine(Binary::Add, Operand::Source(Source::Moved(Near::S1))),
             2,
             1,
         ),
         (
-            Operation::Combine(Binary::Add, Operand::Moved(Near::S3)),
+            Operation::Combine(Binary::Add, Operand::Source(Source::Moved(Near::S3))),
             4,
             3,
         ),
         (
-            Operation::Latch(Multiply::Mul, Operand::Moved(Near::S2)),
+            Operation::Latch(Multiply::Mul, Operand::Source(Source::Moved(Near::S2))),
             3,
             1,
         ),
@@ -104,8 +104,8 @@ fn lacks_one(rt: HostRuntime) -> Result<(), Fail> {
 // Stack 2 beside the slot has three words, stack 3 has none.
 #[test]
 fn lacks_elsewhere(rt: HostRuntime) -> Result<(), Fail> {
-    let third = Operand::Other(StackNumber::Two, Near::S2);
-    let fourth = Operand::Other(StackNumber::Two, Near::S3);
+    let third = Operand::Source(Source::Other(StackNumber::Two, Near::S2));
+    let fourth = Operand::Source(Source::Other(StackNumber::Two, Near::S3));
     works(&rt, Operation::Combine(Binary::Add, third), filled(1), 1);
     faults(&rt, Operation::Combine(Binary::Add, third), filled(0), 41)?;
     faults(&rt, Operation::Combine(Binary::Add, fourth), filled(9), 41)?;

@@ -1,7 +1,7 @@
 use crate::rows::{LOW, Row, beside, drafted, leaves, makes, stack_of};
 use alu::latches::product;
 use operations::kinds::{Fetch, Multiply};
-use operations::operands::Operand;
+use operations::operands::{Operand, Source};
 use operations::operation::Operation;
 use operations::places::{Near, StackNumber};
 use slots::latches::Latches;
@@ -13,7 +13,7 @@ use std::test::Fail;
 fn multiplies(rt: HostRuntime) -> Result<(), Fail> {
     let stacks = beside(stack_of(&[0xFFFF_FFFE, 3], (false, false)));
     let draft = drafted(
-        Operation::Latch(Multiply::Mul, Operand::Moved(Near::S0)),
+        Operation::Latch(Multiply::Mul, Operand::Source(Source::Moved(Near::S0))),
         &stacks,
     );
     let Some(write) = draft.write else {

@@ -1,4 +1,5 @@
 // A slot worked on stack 0, shown and settled, beside what is expected. Words are written with the top last.
+use codes::numbers::Numbered;
 use drafts::draft::Draft;
 use operations::operation::Operation;
 use operations::places::StackNumber;

@@ -1,8 +1,9 @@
 // What the words of a command ask for.
 use blocks::kinds::Kind;
 use commands::kinds::kind_named;
-use commands::verbs::Verb;
-use std::fmt;
+use commands::verbs::{UnknownVerb, Verb};
+use std::num::ParseIntError;
+use thiserror::Error;
 
 pub(super) enum Command<'a> {
     Seal {
@@ -28,12 +29,17 @@ pub(super) enum Command<'a> {
     Help,
 }
 
-#[derive(Clone, Copy)]
+#[derive(Debug, Drop, Error)]
 pub(super) enum Misuse {
+    #[error("there is no command; `vestruga help` lists them")]
     Empty,
-    UnknownVerb,
+    #[error("there is no such command; `vestruga help` lists them")]
+    UnknownVerb(#[from] UnknownVerb),
+    #[error("a block's kind is written `code` or `table`")]
     UnknownKind,
-    NotANumber,
+    #[error("an address and a count are decimal numbers")]
+    NotANumber(#[from] ParseIntError),
+    #[error("the command is written so: vestruga {0}")]
     Words(Verb),
 }
 
@@ -41,14 +47,13 @@ pub(super) fn parse<'a>(words: &[&'a str]) -> Result<Command<'a>, Misuse> {
     let [word, rest @ ..] = words else {
         return Err(Misuse::Empty);
     };
-    let Some(verb) = Verb::named(word) else {
-        return Err(Misuse::UnknownVerb);
-    };
+    let verb: Verb = word.parse()?;
     match (verb, rest) {
-        (Verb::Seal, [kind, from, to]) => match kind_named(kind) {
-            Some(kind) => Ok(Command::Seal { kind, from, to }),
-            None => Err(Misuse::UnknownKind),
-        },
+        (Verb::Seal, [kind, from, to]) => Ok(Command::Seal {
+            kind: kind_named(kind).ok_or(Misuse::UnknownKind)?,
+            from,
+            to,
+        }),
         (Verb::Check, [image]) => Ok(Command::Check { image }),
         (Verb::Show, [image]) => Ok(Command::Show {
             image,
@@ -59,35 +64,17 @@ pub(super) fn parse<'a>(words: &[&'a str]) -> Result<Command<'a>, Misuse> {
             payload: true,
         }),
         (Verb::List, [image]) => Ok(Command::List { image }),
-        (Verb::Read, [image, address]) => reading(image, address, "1"),
-        (Verb::Read, [image, address, count]) => reading(image, address, count),
+        (Verb::Read, [image, address]) => Ok(Command::Read {
+            image,
+            address: address.parse()?,
+            count: 1,
+        }),
+        (Verb::Read, [image, address, count]) => Ok(Command::Read {
+            image,
+            address: address.parse()?,
+            count: count.parse()?,
+        }),
         (Verb::Help, []) => Ok(Command::Help),
         (verb, _) => Err(Misuse::Words(verb)),
-    }
-}
-
-fn reading<'a>(image: &'a str, address: &str, count: &str) -> Result<Command<'a>, Misuse> {
-    match (address.parse::<usize>(), count.parse::<usize>()) {
-        (Ok(address), Ok(count)) => Ok(Command::Read {
-            image,
-            address,
-            count,
-        }),
-        _ => Err(Misuse::NotANumber),
-    }
-}
-
-impl fmt::Display for Misuse {
-    fn fmt<W: fmt::Write>(&self, f: &mut fmt::Formatter<W>) -> fmt::Result {
-        match self {
-            Misuse::Empty => write!(f, "there is no command; `vestruga help` lists them"),
-            Misuse::UnknownVerb => write!(
-                f,
-                "there is no such command; `vestruga help` lists them"
-            ),
-            Misuse::UnknownKind => write!(f, "a block's kind is written `code` or `table`"),
-            Misuse::NotANumber => write!(f, "an address and a count are decimal numbers"),
-            Misuse::Words(verb) => write!(f, "the command is written so: vestruga {verb}"),
-        }
     }
 }

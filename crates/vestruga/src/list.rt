@@ -6,12 +6,10 @@ use program::program::Program;
 pub(super) fn run(rt: &HostRuntime, path: &str) -> Result<(), Trouble> {
     let image = files::read(rt, path)?;
     let program = Program::load(rt.alloc(), &image)?;
-    let mut address = 0u32;
-    for bundle in program.bundles() {
-        println!(rt; "{address:6}  {bundle}")?;
-        address = address.wrapping_add(8);
-    }
     let end = program.end();
+    for (address, bundle) in (0..end).step_by(8).zip(program.bundles()) {
+        println!(rt; "{address:6}  {bundle}")?;
+    }
     println!(rt; "{end:6}  the end")?;
     Ok(())
 }

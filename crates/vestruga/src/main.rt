@@ -14,23 +14,20 @@ mod troubles;
 
 use self::command::{Command, parse};
 use self::troubles::Trouble;
-use std::alloc::Global;
+use std::alloc::{AllocError, Global};
 use std::env;
 use std::process::ExitCode;
 
 fn main(rt: HostRuntime) -> anyhow::Result<ExitCode> {
-    let mut arguments = Vec::new(rt.alloc());
-    for argument in env::args(&rt)?.skip(1) {
-        arguments.push(argument)?;
-    }
+    let arguments: Vec<String> = env::args(&rt)?.skip(1).collect(rt.alloc())?;
     if arguments.is_empty() {
         script(&rt)?;
         return Ok(ExitCode::SUCCESS);
     }
-    let mut words = Vec::new(rt.alloc());
-    for argument in arguments.iter() {
-        words.push(argument.as_str())?;
-    }
+    let words: Vec<&str> = arguments
+        .iter()
+        .map(|argument| argument.as_str())
+        .collect(rt.alloc())?;
     match run(&rt, &words) {
         Ok(()) => Ok(ExitCode::SUCCESS),
         Err(trouble) => {
@@ -57,15 +54,10 @@ fn script(rt: &HostRuntime) -> anyhow::Result<()> {
 }
 
 // The words of a line, up to its comment.
-fn split(heap: Global, line: &str) -> anyhow::Result<Vec<&str>> {
-    let mut words = Vec::new(heap);
-    for word in line.split_whitespace() {
-        if word.starts_with('#') {
-            break;
-        }
-        words.push(word)?;
-    }
-    Ok(words)
+fn split(heap: Global, line: &str) -> Result<Vec<&str>, AllocError> {
+    line.split_whitespace()
+        .take_while(|word| !word.starts_with('#'))
+        .collect(heap)
 }
 
 fn run(rt: &HostRuntime, words: &[&str]) -> Result<(), Trouble> {
