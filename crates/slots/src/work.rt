@@ -79,7 +79,7 @@ pub fn work(
     latches: Latches,
     next: u32,
 ) -> Draft
-    ensures value { shown result (stack_at stacks.now (stack_number number)) ≡ worked operation (stack_at stacks.now (stack_number number)) (words_of stacks.now) (latch_of latches number) next }
+    ensures value { let own = stack_at stacks.now (stack_number number) in shown result own ≡ worked operation own (words_of stacks.now) (latch_of latches number) next }
     ensures fits { length (shown result (stack_at stacks.now (stack_number number))).stack.words ≤ 64 }
 {
     let slot = Slot {
