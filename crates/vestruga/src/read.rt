@@ -2,7 +2,6 @@
 use super::files;
 use super::troubles::Trouble;
 use book::books::Book;
-use memory::marks::Mark;
 use memory::meaning::Memory;
 use memory::sentences::{mark_at, read_at};
 
@@ -22,21 +21,9 @@ pub(super) fn run(
 
 // A byte with its mark, of any memory; what is refused ends the command.
 fn byte<M: Memory>(rt: &HostRuntime, memory: &mut M, address: usize) -> Result<(), Trouble> {
-    match (mark_at(memory, address), read_at(memory, address)) {
-        (Ok(mark), Ok(byte)) => {
-            let name = mark_name(mark);
-            println!(rt; "address {address}: {byte:02X}, {name}")?;
-            Ok(())
-        }
-        (Err(refusal), _) => Err(Trouble::Memory { address, refusal }),
-        (_, Err(refusal)) => Err(Trouble::Memory { address, refusal }),
-    }
-}
-
-fn mark_name(mark: Mark) -> &'static str {
-    match mark {
-        Mark::Open => "open",
-        Mark::Kept => "kept",
-        Mark::Spoiled => "spoiled",
-    }
+    let refused = |refusal| Trouble::Memory { address, refusal };
+    let mark = mark_at(memory, address).map_err(refused)?;
+    let byte = read_at(memory, address).map_err(refused)?;
+    println!(rt; "address {address}: {byte:02X}, {mark}")?;
+    Ok(())
 }

@@ -5,20 +5,15 @@ use blocks::headers::Header;
 use blocks::kinds::Kind;
 use blocks::layout::BLOCK;
 use blocks::opening::open;
-use images::checking::kind_of;
-use images::refusals::ImageRefusal;
+use images::checking::{count_blocks, kind_of};
 use std::fmt;
 
 pub(super) fn run(rt: &HostRuntime, path: &str, payload: bool) -> Result<(), Trouble> {
     let image = files::read(rt, path)?;
     let kind = kind_of(&image);
-    let blocks = image.len() / BLOCK;
-    if image.len() % BLOCK != 0 || blocks < 1 || blocks > kind.most_blocks() {
-        return Err(Trouble::Refused(ImageRefusal::Length));
-    }
-    for place in 0..blocks {
-        let from = BLOCK * place;
-        block(rt, kind, place as u16, &image[from..from + BLOCK], payload)?;
+    count_blocks(kind, &image)?;
+    for (place, bytes) in (0..u16::MAX).zip(image.chunks_exact(BLOCK)) {
+        block(rt, kind, place, bytes, payload)?;
     }
     Ok(())
 }

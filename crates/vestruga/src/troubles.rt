@@ -1,78 +1,35 @@
 // Why a command was not carried out: one line that says so.
 use super::command::Misuse;
-use images::refusals::{ImageError, ImageRefusal};
+use images::refusals::ImageRefusal;
 use memory::refusals::MemoryRefusal;
-use program::refusals::{LoadError, LoadRefusal};
+use program::refusals::LoadRefusal;
+use questions::failures::Failure;
 use std::alloc::AllocError;
-use std::{fmt, io};
+use std::io;
+use thiserror::Error;
 
-#[derive(Drop)]
+#[derive(Debug, Drop, Error)]
 pub(super) enum Trouble {
-    Misused(Misuse),
-    Refused(ImageRefusal),
-    NotLoaded(LoadRefusal),
+    #[error(transparent)]
+    Misused(#[from] Misuse),
+    #[error("refused, {0}")]
+    Refused(#[from] ImageRefusal),
+    #[error("refused, {0}")]
+    NotLoaded(#[from] LoadRefusal),
+    #[error("refused, {refusal} (address {address})")]
     Memory {
         address: usize,
         refusal: MemoryRefusal,
     },
+    #[error("there is not memory enough")]
     OutOfMemory,
-    NotRead {
-        path: String,
-        error: io::Error,
-    },
-    NotWritten {
-        path: String,
-        error: io::Error,
-    },
-    Output(io::Error),
-}
-
-impl fmt::Display for Trouble {
-    fn fmt<W: fmt::Write>(&self, f: &mut fmt::Formatter<W>) -> fmt::Result {
-        match self {
-            Trouble::Misused(misuse) => write!(f, "{misuse}"),
-            Trouble::Refused(refusal) => write!(f, "refused, {refusal}"),
-            Trouble::NotLoaded(refusal) => write!(f, "refused, {refusal}"),
-            Trouble::Memory { address, refusal } => write!(
-                f,
-                "refused, {refusal} (address {address})"
-            ),
-            Trouble::OutOfMemory => write!(f, "there is not memory enough"),
-            Trouble::NotRead { path, error } => write!(f, "{path} cannot be read: {error}"),
-            Trouble::NotWritten { path, error } => write!(f, "{path} cannot be written: {error}"),
-            Trouble::Output(error) => write!(f, "standard output cannot be written: {error}"),
-        }
-    }
-}
-
-impl From<Misuse> for Trouble {
-    fn from(misuse: Misuse) -> Trouble {
-        Trouble::Misused(misuse)
-    }
-}
-
-impl From<ImageRefusal> for Trouble {
-    fn from(refusal: ImageRefusal) -> Trouble {
-        Trouble::Refused(refusal)
-    }
-}
-
-impl From<ImageError> for Trouble {
-    fn from(error: ImageError) -> Trouble {
-        match error {
-            ImageError::Refused(refusal) => Trouble::Refused(refusal),
-            ImageError::OutOfMemory => Trouble::OutOfMemory,
-        }
-    }
-}
-
-impl From<LoadError> for Trouble {
-    fn from(error: LoadError) -> Trouble {
-        match error {
-            LoadError::Refused(refusal) => Trouble::NotLoaded(refusal),
-            LoadError::OutOfMemory => Trouble::OutOfMemory,
-        }
-    }
+    #[error("{path} cannot be read: {error}")]
+    NotRead { path: String, error: io::Error },
+    #[error("{path} cannot be written: {error}")]
+    NotWritten { path: String, error: io::Error },
+    // What is printed is all that a command writes by itself: files go by their own cases.
+    #[error("standard output cannot be written: {0}")]
+    Output(#[from] io::Error),
 }
 
 impl From<AllocError> for Trouble {
@@ -81,9 +38,11 @@ impl From<AllocError> for Trouble {
     }
 }
 
-// What is printed is all that a command writes by itself: files go by their own cases.
-impl From<io::Error> for Trouble {
-    fn from(error: io::Error) -> Trouble {
-        Trouble::Output(error)
+impl<R: Into<Trouble> + Drop> From<Failure<R>> for Trouble {
+    fn from(failure: Failure<R>) -> Trouble {
+        match failure {
+            Failure::Refused(refusal) => refusal.into(),
+            Failure::OutOfMemory => Trouble::OutOfMemory,
+        }
     }
 }
