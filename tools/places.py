@@ -132,10 +132,14 @@ def loops():
 
 
 def by_hand():
-    """4. Conversions, comparisons and printing written by hand."""
-    yield from matching(r"^impl.* (fmt::Display|PartialEq|Eq|Ord|PartialOrd|Clone|Copy|Debug) for ")
-    yield from matching(r"fn (\w+_word|\w+_name|number|from_number|byte|named|kind_named|condition_of|number_of|of|operand)\(")
-    yield from matching(r"^(?!\s*//).*\bas (u8|u16|u32|u64|i8|i16|i32|i64|usize)\b")
+    """4. Conversions with clauses of their own, comparisons, words of values, and casts."""
+    converts = r"number|from_number|byte|named|kind_named|condition_of|number_of|operand|of|question|\w+_word|\w+_name"
+    for f in functions():
+        told = f.clauses or f.name.endswith("_name")
+        if told and re.fullmatch(converts, f.name) and not re.search(r"stack: StackNumber|bytes: |place: ", f.head):
+            yield f.where, f"fn {f.name}"
+    yield from matching(r"^impl.* (PartialEq|Eq|Ord|PartialOrd|Clone|Copy|Debug) for ")
+    yield from matching(r"^(?!\s*//).*(?<!self) as (u8|u16|u32|u64|i8|i16|i32|i64|usize)\b")
 
 
 def repeated_facts():
