@@ -29,7 +29,7 @@ impl Reach<'_> {
         ensures { read_change result self.now.own.now ≡ placed source self.now.own.now (words_of self.now.stacks.now) }
     {
         let copied = match source {
-            Source::Own(place) => self.own.get(place.number() as usize),
+            Source::Own(place) => self.own.get(usize::from(place.number())),
             Source::Other(stack, near) => self.other_word(stack, near),
             Source::Moved(near) => return move_up(self.own, near),
         };

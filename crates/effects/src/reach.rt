@@ -21,13 +21,15 @@ pub fn stack(stacks: &[Stack; 4], number: StackNumber) -> &Stack
     ensures { result.now ≡ stack_at stacks.now (stack_number number) }
 {
     let stacks = &stacks[..];
-    &stacks[number.number() as usize]
+    &stacks[usize::from(number.number())]
 }
 
 impl Reach<'_> {
     pub(crate) fn other_word(&self, number: StackNumber, near: Near) -> Option<u32>
         ensures { result ≡ slice_get (words_of self.now.stacks.now number) (near_number near) }
     {
-        stack(self.stacks, number).words.get(near.number() as usize)
+        stack(self.stacks, number)
+            .words
+            .get(usize::from(near.number()))
     }
 }

@@ -87,7 +87,7 @@ impl Reach<'_> {
         ensures copies { Copies }
     {
         let n2 = match operand {
-            Operand::Source(Source::Own(place)) => self.own.get(place.number() as usize)?,
+            Operand::Source(Source::Own(place)) => self.own.get(usize::from(place.number()))?,
             Operand::Source(Source::Other(stack, near)) => self.other_word(stack, near)?,
             Operand::Source(Source::Moved(near)) => return moved_two(self.own, near),
             Operand::Constant(constant) => constant.word(),

@@ -25,6 +25,6 @@ impl Slot<'_> {
 pub fn pin(own: &Stack, place: Place) -> Option<Draft>
     ensures { left result own.now ≡ pinning (place_number place) own.now }
 {
-    let place = place.number() as usize;
+    let place = usize::from(place.number());
     (place < own.words.depth()).then_some(Draft::changed(own, Change::Pin(place)))
 }

@@ -47,7 +47,7 @@ impl Slot<'_> {
         let own = self.own;
         match operation {
             Operation::Nop => Some(Draft::untouched(own)),
-            Operation::Push(value) => Some(push(own, (value as i32).cast_unsigned())),
+            Operation::Push(value) => Some(push(own, i32::from(value).cast_unsigned())),
             Operation::Append(byte) => append_byte(own, byte),
             Operation::Combine(binary, operand) => self.combine_two(binary, operand),
             Operation::Latch(multiply, operand) => self.latch_two(multiply, operand),
