@@ -1,5 +1,5 @@
 -- What the code asks of a block is what opening asks, and what a block that passes is known by.
-use Rattle.std.proofs.Common.{◌≡◌, ℕ, Bool, true, false, Option, eqb, ok_or, Ok, refl, cond, ℕ, List, [], ◌∷◌, length, get_or, take, Some, None}
+use Rattle.std.proofs.Common.{cond, ok_or, Option, Ok, refl, false, Bool, [], ◌∷◌, ◌≡◌, ℕ, Bool, true, false, Option, eqb, ok_or, Ok, refl, cond, ℕ, List, [], ◌∷◌, length, get_or, take, Some, None}
 use Rattle.std.specs.List.{between}
 use Rattle.std.proofs.lemmas.Bool.{eq-eqb, eqb-true}
 use Rattle.questions.specs.Questions.{first_no}
@@ -7,6 +7,8 @@ use Rattle.questions.proofs.Answered.{passed}
 use Rattle.blocks.specs.declared.refusals.BlockRefusal.TheVariants.{NotWhole, WrongKind, WrongEdition, WrongPlace, NotZero, WrongCheck}
 use Rattle.blocks.specs.Asking.{opening}
 use Rattle.blocks.specs.Check.{check_word}
+use Rattle.blocks.specs.Headers.{headed}
+use Rattle.blocks.specs.declared.headers.Header.{Header}
 use Rattle.blocks.specs.Layout.{two_at, four_at, all_zero}
 use Rattle.blocks.specs.Headers.{headed}
 use Rattle.blocks.specs.declared.headers.Header.{Header}
@@ -26,6 +28,7 @@ some_if true x y r e = (refl, cc)
 some_if false x y r e = cc
 
 module _ (kind place : ℕ) (xs : List ℕ) where
+  -- what is left to ask of a whole block
   -- what the code is left to ask of a whole block, by its header and with what it worked out
   pub whole : (o : Option Header) (h : Header) → o ≡ headed xs → ok_or o NotWhole ≡ Ok h → (byte word : ℕ) (zeros : Bool) → byte ≡ kind → zeros ≡ all_zero (between 4 12 xs) → word ≡ check_word (take 508 xs)
       → opening kind place xs

@@ -17,19 +17,13 @@ impl Header {
     pub fn read(bytes: &[u8]) -> Option<Header>
         ensures { result ≡ headed bytes.now }
     {
-        if bytes.len() != BLOCK {
-            return None;
-        }
-        let [kind, edition, high, low, .., first, second, third, fourth] = bytes else {
-            return None;
-        };
-        let number = u16::from_be_bytes([*high, *low]);
-        let check = u32::from_be_bytes([*first, *second, *third, *fourth]);
+        let block: &[u8; BLOCK] = bytes.try_into().ok()?;
+        let [kind, edition, high, low, .., first, second, third, fourth] = block;
         Some(Header {
             kind: *kind,
             edition: *edition,
-            number,
-            check,
+            number: u16::from_be_bytes([*high, *low]),
+            check: u32::from_be_bytes([*first, *second, *third, *fourth]),
         })
     }
 }

@@ -2,12 +2,12 @@
 ghost use Rattle.std.specs.Prelude.{◌≡◌, length, IfOk};
 ghost use Rattle.blocks.specs.Asking.{opened, lent};
 ghost use Rattle.blocks.specs.Kinds.{kind_byte};
-ghost use Rattle.blocks.specs.Layout.{sealed, all_zero, four_at};
+ghost use Rattle.blocks.specs.Layout.{sealed, all_zero};
 
 use super::check::check_word;
 use super::headers::Header;
 use super::kinds::Kind;
-use super::layout::EDITION;
+use super::layout::{COVERED, EDITION, HEADER, payload};
 use super::refusals::BlockRefusal;
 use questions::ask;
 
@@ -18,24 +18,17 @@ pub fn open(bytes: &[u8], kind: Kind, place: u16) -> Result<&[u8], BlockRefusal>
     ensures exact { IfOk result (λ payload. bytes.now ≡ sealed (kind_byte kind) place payload.now) }
 {
     let header = Header::read(bytes).ok_or(BlockRefusal::NotWhole)?;
-    ask(header.kind == kind.byte(), BlockRefusal::WrongKind)?;
+    ask(header.kind == u8::from(kind), BlockRefusal::WrongKind)?;
     ask(header.edition == EDITION, BlockRefusal::WrongEdition)?;
     ask(header.number == place, BlockRefusal::WrongPlace)?;
-    ask(all_zero(&bytes[4..12]), BlockRefusal::NotZero)?;
-    ask(
-        header.check == check_word(&bytes[0..508]),
-        BlockRefusal::WrongCheck,
-    )?;
-    Ok(&bytes[12..508])
+    ask(all_zero(&bytes[4..HEADER]), BlockRefusal::NotZero)?;
+    let word = check_word(&bytes[0..COVERED]);
+    ask(header.check == word, BlockRefusal::WrongCheck)?;
+    Ok(payload(bytes))
 }
 
 fn all_zero(bytes: &[u8]) -> bool
     ensures { result ≡ all_zero bytes.now }
 {
-    for byte in bytes {
-        if *byte != 0 {
-            return false;
-        }
-    }
-    true
+    bytes.iter().all(|byte| *byte == 0)
 }

@@ -7,7 +7,7 @@ ghost use Rattle.blocks.specs.Layout.{header, sealed};
 
 use super::check::check_word;
 use super::kinds::Kind;
-use super::layout::{BLOCK, EDITION, PAYLOAD};
+use super::layout::{BLOCK, COVERED, EDITION, HEADER, PAYLOAD};
 use super::refusals::SealRefusal;
 use questions::ask;
 
@@ -17,7 +17,7 @@ pub fn seal(kind: u8, number: u16, payload: &[u8], target: &mut [u8]) -> Result<
     ensures after { target.new ≡ held_after (asks kind payload.now target.old) (sealed kind number payload.now) target.old }
     ensures back { result ≡ Ok tt → opened kind number target.new ≡ Ok payload.now }
 {
-    ask(Kind::named(kind).is_some(), SealRefusal::UnknownKind)?;
+    ask(Kind::try_from(kind).is_ok(), SealRefusal::UnknownKind)?;
     ask(payload.len() == PAYLOAD, SealRefusal::PayloadLength)?;
     ask(target.len() == BLOCK, SealRefusal::TargetLength)?;
     lay(kind, number, payload, target);
@@ -29,26 +29,27 @@ pub fn seal_block(kind: Kind, number: u16, payload: &[u8; PAYLOAD]) -> [u8; BLOC
     ensures { result ≡ sealed (kind_byte kind) number payload.now }
 {
     let mut block = [0u8; BLOCK];
-    lay(kind.byte(), number, payload, &mut block);
+    lay(u8::from(kind), number, payload, &mut block);
     block
 }
 
 // Writes a whole block.
+#[tactic(auto, unfolding(crate::specs::Layout::sealed))]
 fn lay(kind: u8, number: u16, payload: &[u8], target: &mut [u8])
     requires payload { length payload.now ≡ 496 }
     requires target { length target.old ≡ 512 }
     ensures { target.new ≡ sealed kind number payload.now }
 {
-    put_header(kind, number, target);
-    target[12..508].copy_from_slice(payload);
-    let word = check_word(&target[0..508]);
-    target[508..512].copy_from_slice(&word.to_be_bytes());
+    let (covered, check) = target.split_at_mut(COVERED);
+    let (head, body) = covered.split_at_mut(HEADER);
+    head.copy_from_slice(&header(kind, number));
+    body.copy_from_slice(payload);
+    check.copy_from_slice(&check_word(covered).to_be_bytes());
 }
 
-fn put_header(kind: u8, number: u16, target: &mut [u8])
-    requires { 12 ≤ length target.old }
-    ensures { target.new ≡ header kind number ++ drop 12 target.old }
+fn header(kind: u8, number: u16) -> [u8; HEADER]
+    ensures { result ≡ header kind number }
 {
     let [high, low] = number.to_be_bytes();
-    target[0..12].copy_from_slice(&[kind, EDITION, high, low, 0, 0, 0, 0, 0, 0, 0, 0]);
+    [kind, EDITION, high, low, 0, 0, 0, 0, 0, 0, 0, 0]
 }
