@@ -13,6 +13,10 @@ use Rattle.operations.specs.declared.operation.Operation.TheVariants.{Nop, Push,
 use Rattle.std.specs.Option.{option_map}
 use Rattle.std.specs.List.{slice_get}
 
+-- an operation that uses no argument, so that its argument byte is 0
+abbrev pub bare : Operation → ℕ → Option Operation
+bare operation argument = cond (argument == 0) (Some operation) None
+
 -- an operation on the top and a second operand
 abbrev pub combined : Binary → ℕ → Option Operation
 combined binary argument = option_map (Combine binary) (decoded_operand argument)
@@ -24,31 +28,31 @@ latched multiply argument = option_map (Latch multiply) (decoded_operand argumen
 -- the operations numbered 0 to 16, each with what its argument byte makes of it
 abbrev pub firsts : List (ℕ → Option Operation)
 firsts =
-    (λ argument. cond (argument == 0) (Some Nop) None) ∷
+    bare Nop ∷
     (λ argument. Some (Push (to_z w8 argument))) ∷
     (λ argument. Some (Append argument)) ∷
     (map combined binaries ++ (map latched multiplies ++
     (λ argument. option_map Pick (decoded_source argument)) ∷
     (λ argument. option_map Pin (slice_get places argument)) ∷ []))
 
--- the operations numbered 33 to 50
-abbrev pub lasts : List Operation
-lasts = map Shift shifts ++ (map Scan scans ++ (map Special specials ++ map Fetch fetches))
-
--- those numbered 17 to 50, of which 17 to 32 are the flags of the conditions
-abbrev pub bare : ℕ → Option Operation
-bare number = cond (nat_lt number 33) (option_map Flag (slice_get conditions (number - 17))) (slice_get lasts (number - 33))
-
 -- what an entry of that list makes of the argument byte
 abbrev pub given : Option (ℕ → Option Operation) → ℕ → Option Operation
 given None argument = None
 given (Some entry) argument = entry argument
 
+-- those numbered 33 to 50
+abbrev pub last_operations : List Operation
+last_operations = map Shift shifts ++ (map Scan scans ++ (map Special specials ++ map Fetch fetches))
+
+-- those numbered 17 to 50, which use no argument: the flags of the conditions, and then the last ones
+abbrev pub unargued : ℕ → Option Operation
+unargued number = cond (nat_lt number 33) (option_map Flag (slice_get conditions (number - 17))) (slice_get last_operations (number - 33))
+
 -- the operation that two bytes mean; where it uses no argument, the argument byte is 0
 abbrev pub decoded_operation : ℕ → ℕ → Option Operation
 decoded_operation number argument =
     cond (nat_lt number 17) (given (slice_get firsts number) argument) (
-    cond (argument == 0) (bare number) None)
+    cond (argument == 0) (unargued number) None)
 
 -- the two bytes of an operation
 abbrev pub encoded_operation : Operation → List ℕ
