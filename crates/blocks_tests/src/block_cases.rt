@@ -97,10 +97,7 @@ fn opening_refuses_in_order(rt: HostRuntime) {
 }
 
 fn refused(bytes: &[u8], kind: Kind, place: u16) -> Option<BlockRefusal> {
-    match open(bytes, kind, place) {
-        Ok(_) => None,
-        Err(refusal) => Some(refusal),
-    }
+    open(bytes, kind, place).err()
 }
 
 #[test]

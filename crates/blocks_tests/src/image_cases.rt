@@ -29,7 +29,7 @@ fn bytes_come_back_with_their_filling(rt: HostRuntime) -> Result<(), Fail> {
 fn nothing_makes_no_image(rt: HostRuntime) {
     let heap = rt.alloc();
     assert_eq!(rt;
-        refusal_of(seal_all(heap, Kind::Code, &[])),
+        seal_all(heap, Kind::Code, &[]).err(),
         Some(ImageError::Refused(ImageRefusal::Length))
     );
     assert_eq!(rt; check_image(Kind::Code, &[]), Err(ImageRefusal::Length));
@@ -41,13 +41,6 @@ fn nothing_makes_no_image(rt: HostRuntime) {
         check_image(Kind::Code, &[1u8; 513]),
         Err(ImageRefusal::Length)
     );
-}
-
-fn refusal_of(answer: Result<Vec<u8>, ImageError>) -> Option<ImageError> {
-    match answer {
-        Ok(_) => None,
-        Err(error) => Some(error),
-    }
 }
 
 #[test]
@@ -64,7 +57,7 @@ fn greatest(rt: &(impl Abort + AllocGlobal), kind: Kind, blocks: usize) -> Resul
     assert_eq!(rt; payloads(heap, kind, &image)? == bytes, true);
     bytes.push(0)?;
     assert_eq!(rt;
-        refusal_of(seal_all(heap, kind, &bytes)),
+        seal_all(heap, kind, &bytes).err(),
         Some(ImageError::Refused(ImageRefusal::Length))
     );
     image.extend_from_slice(&[0u8; BLOCK])?;

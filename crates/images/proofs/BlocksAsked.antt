@@ -1,27 +1,29 @@
--- A turn of the loop over an image's blocks: one is asked, and what is left gives the whole.
-use Rattle.std.proofs.Common.{◌≡◌, ℕ, suc, ◌+◌, ◌-◌, ◌*◌, ◌<◌, List, take, drop, Some, None, sym, ap, ◌∙◌, arith}
-use Rattle.std.proofs.lemmas.List.{drop-drop}
+-- The blocks of an image as a list: what is asked of them, one after the other.
+use Rattle.std.proofs.Common.{◌≡◌, ℕ, zero, suc, ◌+◌, ◌<◌, List, [], ◌∷◌, length, get_or, drop, Some, None, Option, sym, ap, ◌∙◌, refl}
+use Rattle.std.proofs.lemmas.List.{at_drop_more}
+use Rattle.std.specs.Simd.{first_chunks}
 use Rattle.questions.specs.Questions.{or_else}
 use Rattle.blocks.specs.Asking.{opening}
 use Rattle.images.specs.declared.refusals.ImageRefusal.{ImageRefusal}
 use Rattle.images.specs.Images.{in_block, blocks_asked}
 
--- the code's part of an image is the block at its place
-part : (image : List ℕ) (i : ℕ) → take ((512 * i + 512) - 512 * i) (drop (512 * i) image) ≡ take 512 (drop (512 * i) image)
-part image i = let e : (512 * i + 512) - 512 * i ≡ 512 = omega arith in ap (λ n. take n (drop (512 * i) image)) e
+-- the first no to these blocks, from a place on
+abbrev pub asked_of : ℕ → ℕ → List (List ℕ) → Option ImageRefusal
+asked_of kind place [] = None
+asked_of kind place (block ∷ blocks) = or_else (in_block place (opening kind place block)) (asked_of kind (place + 1) blocks)
 
-module _ (kind : ℕ) (image : List ℕ) (i n : ℕ) (here : i < n) (inv : blocks_asked kind i (n - i) (drop (512 * i) image) ≡ blocks_asked kind 0 n image) where
-  turn : or_else (in_block i (opening kind i (take ((512 * i + 512) - 512 * i) (drop (512 * i) image)))) (blocks_asked kind (i + 1) (n - (i + 1)) (drop (512 * (i + 1)) image)) ≡ blocks_asked kind 0 n image
-  turn =
-      let count : n - i ≡ suc (n - (i + 1)) = omega arith in
-      let next : 512 * i + 512 ≡ 512 * (i + 1) = omega arith in
-      let rest : drop 512 (drop (512 * i) image) ≡ drop (512 * (i + 1)) image = drop-drop 512 (512 * i) image ∙ ap (λ m. drop m image) next in
-      ap (λ b. or_else (in_block i (opening kind i b)) (blocks_asked kind (i + 1) (n - (i + 1)) (drop (512 * (i + 1)) image))) (part image i)
-      ∙ ap (λ l. or_else (in_block i (opening kind i (take 512 (drop (512 * i) image)))) (blocks_asked kind (i + 1) (n - (i + 1)) l)) (sym rest)
-      ∙ sym (ap (λ m. blocks_asked kind i m (drop (512 * i) image)) count) ∙ inv
+pub asked_is : (kind place n : ℕ) (image : List ℕ) → blocks_asked kind place n image ≡ asked_of kind place (first_chunks 512 n image)
+asked_is kind place zero image = refl
+asked_is kind place (suc n) image = ap (or_else _) (asked_is kind (place + 1) n (drop 512 image))
 
-  pub passes : in_block i (opening kind i (take ((512 * i + 512) - 512 * i) (drop (512 * i) image))) ≡ None → blocks_asked kind (i + 1) (n - (i + 1)) (drop (512 * (i + 1)) image) ≡ blocks_asked kind 0 n image
-  passes none = sym (ap (λ o. or_else o (blocks_asked kind (i + 1) (n - (i + 1)) (drop (512 * (i + 1)) image))) none) ∙ turn
+module _ (kind i : ℕ) (blocks : List (List ℕ)) (here : i < length blocks) (inv : asked_of kind i (drop i blocks) ≡ asked_of kind 0 blocks) where
+  turn : (o : Option ImageRefusal) → in_block i (opening kind i (get_or blocks i [])) ≡ o → asked_of kind 0 blocks ≡ or_else o (asked_of kind (i + 1) (drop (i + 1) blocks))
+  turn o is = sym inv ∙ at_drop_more (asked_of kind i) blocks i [] here ∙ ap (λ p. or_else p (asked_of kind (i + 1) (drop (i + 1) blocks))) is
 
-  pub stops : (e : ImageRefusal) → in_block i (opening kind i (take ((512 * i + 512) - 512 * i) (drop (512 * i) image))) ≡ Some e → blocks_asked kind 0 n image ≡ Some e
-  stops e some = sym turn ∙ ap (λ o. or_else o (blocks_asked kind (i + 1) (n - (i + 1)) (drop (512 * (i + 1)) image))) some
+  -- a block that opens leaves the answer to the later ones
+  pub passes : in_block i (opening kind i (get_or blocks i [])) ≡ None → asked_of kind (i + 1) (drop (i + 1) blocks) ≡ asked_of kind 0 blocks
+  passes none = sym (turn None none)
+
+  -- one that does not open decides
+  pub stops : (e : ImageRefusal) → in_block i (opening kind i (get_or blocks i [])) ≡ Some e → asked_of kind 0 blocks ≡ Some e
+  stops e some = turn (Some e) some

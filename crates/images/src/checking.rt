@@ -15,10 +15,7 @@ use questions::ask;
 pub fn kind_of(image: &[u8]) -> Kind
     ensures { result ≡ kind_of image.now }
 {
-    if image.is_empty() {
-        return Kind::Code;
-    }
-    if image[0] == Kind::Table.byte() {
+    if image.first() == Some(&u8::from(Kind::Table)) {
         Kind::Table
     } else {
         Kind::Code
@@ -47,19 +44,17 @@ pub(crate) fn ask_size(kind: Kind, blocks: usize) -> Result<(), ImageRefusal>
 pub fn check(kind: Kind, image: &[u8]) -> Result<usize, ImageRefusal>
     ensures { result ≡ answered (asks kind image.now) (blocks_in image.now) }
 {
-    let blocks = count_blocks(kind, image)?;
-    for place in 0..blocks {
-        let from = BLOCK * place;
-        check_block(kind, place as u16, &image[from..from + BLOCK])?;
+    let count = count_blocks(kind, image)?;
+    let (blocks, _) = image.as_chunks::<BLOCK>();
+    for (place, block) in blocks.iter().enumerate() {
+        check_block(kind, place as u16, block)?;
     }
-    Ok(blocks)
+    Ok(count)
 }
 
-fn check_block(kind: Kind, place: u16, bytes: &[u8]) -> Result<(), ImageRefusal>
-    ensures { result ≡ answered (in_block place (opening (kind_byte kind) place bytes.now)) tt }
+fn check_block(kind: Kind, place: u16, block: &[u8]) -> Result<(), ImageRefusal>
+    ensures { result ≡ answered (in_block place (opening (kind_byte kind) place block.now)) tt }
 {
-    match open(bytes, kind, place) {
-        Ok(_) => Ok(()),
-        Err(refusal) => Err(ImageRefusal::Block { place, refusal }),
-    }
+    open(block, kind, place).map_err(|refusal| ImageRefusal::Block { place, refusal })?;
+    Ok(())
 }

@@ -19,10 +19,8 @@ pub fn seal_all(heap: Global, kind: Kind, bytes: &[u8]) -> Result<Vec<u8>, Image
     let blocks = bytes.len().div_ceil(PAYLOAD);
     ask_size(kind, blocks)?;
     let mut image = Vec::new(heap);
-    for place in 0..blocks {
-        let from = PAYLOAD * place;
-        let to = bytes.len().min(from + PAYLOAD);
-        let payload = fill_up(&bytes[from..to]);
+    for (place, part) in bytes.chunks(PAYLOAD).enumerate() {
+        let payload = fill_up(part);
         image.extend_from_slice(&seal_block(kind, place as u16, &payload))?;
     }
     Ok(image)
@@ -33,6 +31,7 @@ fn fill_up(part: &[u8]) -> [u8; PAYLOAD]
     ensures { result ≡ filled_to 496 part.now }
 {
     let mut payload = [0u8; PAYLOAD];
-    payload[0..part.len()].copy_from_slice(part);
+    let (front, _) = payload.split_at_mut(part.len());
+    front.copy_from_slice(part);
     payload
 }

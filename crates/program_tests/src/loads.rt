@@ -7,15 +7,7 @@ use images::sealing::seal_all;
 use program::program::Program;
 use program::refusals::{LoadError, LoadRefusal};
 use questions::refusals::Refusal;
-use std::alloc::Global;
 use std::test::Fail;
-
-fn refusal_of(heap: Global, image: &[u8]) -> Option<LoadError> {
-    match Program::load(heap, image) {
-        Ok(_) => None,
-        Err(error) => Some(error),
-    }
-}
 
 // Bundle 1 is `push 5` in slot 0; the filling is bundles that do nothing.
 #[test]
@@ -49,7 +41,7 @@ fn blocks_are_asked_before_bundles(rt: HostRuntime) -> Result<(), Fail> {
     let mut image = seal_all(heap, Kind::Code, &code)?;
     let unlawful = LoadRefusal::Unlawful { bundle: 2 };
     assert_eq!(rt;
-        refusal_of(heap, &image),
+        Program::load(heap, &image).err(),
         Some(LoadError::Refused(unlawful))
     );
     assert_eq!(rt; unlawful.number(), 10);
@@ -60,7 +52,7 @@ fn blocks_are_asked_before_bundles(rt: HostRuntime) -> Result<(), Fail> {
         refusal: BlockRefusal::WrongCheck,
     };
     assert_eq!(rt;
-        refusal_of(heap, &image),
+        Program::load(heap, &image).err(),
         Some(LoadError::Refused(LoadRefusal::Image(unsound)))
     );
     assert_eq!(rt; LoadRefusal::Image(unsound).number(), 9);
@@ -75,11 +67,11 @@ fn greatest_program_and_no_program(rt: HostRuntime) -> Result<(), Fail> {
     assert_eq!(rt; Program::load(heap, &image)?.end(), 507904);
     image.extend_from_slice(&[0u8; BLOCK])?;
     assert_eq!(rt;
-        refusal_of(heap, &image),
+        Program::load(heap, &image).err(),
         Some(LoadError::Refused(LoadRefusal::Image(ImageRefusal::Length)))
     );
     assert_eq!(rt;
-        refusal_of(heap, &[]),
+        Program::load(heap, &[]).err(),
         Some(LoadError::Refused(LoadRefusal::Image(ImageRefusal::Length)))
     );
     Ok(())

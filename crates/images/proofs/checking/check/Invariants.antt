@@ -1,8 +1,8 @@
-use Rattle.std.proofs.Common.{◌≡◌, ◌-◌, ◌*◌, drop}
+use Rattle.std.proofs.Common.{◌≡◌, drop}
 use Rattle.blocks.specs.Kinds.{kind_byte}
-use Rattle.images.specs.Images.{blocks_asked}
+use Rattle.images.proofs.BlocksAsked.{asked_of}
 use Rattle.images.proofs.checking.check.Given as goal
 
 -- what is left gives the whole
 abbrev pub invariant-loop-place : goal.invariant-loop-place
-invariant-loop-place l = blocks_asked (kind_byte l.kind) l.place (l.blocks - l.place) (drop (512 * l.place) l.image) ≡ blocks_asked (kind_byte l.kind) 0 l.blocks l.image
+invariant-loop-place l = asked_of (kind_byte l.kind) l.place (drop l.place l.blocks) ≡ asked_of (kind_byte l.kind) 0 l.blocks

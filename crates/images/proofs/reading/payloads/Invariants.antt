@@ -1,7 +1,8 @@
-use Rattle.std.proofs.Common.{◌≡◌, ◌-◌, ◌*◌, ◌++◌, drop, vec_items}
-use Rattle.images.specs.Images.{payloads_of}
+use Rattle.std.proofs.Common.{◌≡◌, take, vec_items}
+use Rattle.std.specs.List.{flat_map}
+use Rattle.blocks.specs.Layout.{payload_of}
 use Rattle.images.proofs.reading.payloads.Given as goal
 
--- what is there, and then what is left, gives the whole
-abbrev pub invariant-loop-place : goal.invariant-loop-place
-invariant-loop-place l = vec_items l.bytes ++ payloads_of (l.blocks - l.place) (drop (512 * l.place) l.image) ≡ payloads_of l.blocks l.image
+-- what is there are the payloads of the blocks so far
+abbrev pub invariant-loop-block : goal.invariant-loop-block
+invariant-loop-block l = vec_items l.bytes ≡ flat_map payload_of (take l.block-index l.blocks)
