@@ -1,40 +1,46 @@
--- A turn of the loop over the bundles: one is decoded, and what is left gives the whole.
-use Rattle.std.proofs.Common.{◌≡◌, ℕ, suc, ◌+◌, ◌-◌, ◌*◌, ◌<◌, List, [], ◌∷◌, ◌++◌, take, drop, Some, None, Option, sym, ap, ◌∙◌, append_assoc, arith}
-use Rattle.std.proofs.lemmas.List.{drop-drop}
+-- The bundles of some chunks of sixteen bytes, as the code decodes them.
+use Rattle.std.proofs.Common.{◌≡◌, ℕ, zero, suc, ◌+◌, ◌<◌, List, [], ◌∷◌, ◌++◌, length, get_or, take, drop, Some, None, Option, sym, ap, ◌∙◌, refl}
+use Rattle.std.specs.List.{filter_map, cons_option}
+use Rattle.std.specs.Simd.{first_chunks}
+use Rattle.std.proofs.lemmas.List.{at_drop_more, take_more}
+use Rattle.std.proofs.lemmas.List.Elements.{filter_map-append}
 use Rattle.bundles.specs.Bundles.{decoded}
 use Rattle.bundles.specs.declared.bundle.Bundle.{Bundle}
+use Rattle.program.specs.declared.refusals.LoadRefusal.{LoadRefusal}
 use Rattle.program.specs.declared.refusals.LoadRefusal.TheVariants.{Unlawful}
 use Rattle.program.specs.Loading.{meant, lawful_then, unlawful, in_front, bundles_of}
 
-module _ (bytes : List ℕ) (i n : ℕ) (here : i < n) where
-  rest : drop 16 (drop (16 * i) bytes) ≡ drop (16 * (i + 1)) bytes
-  rest = let next : 16 * i + 16 ≡ 16 * (i + 1) = omega arith in drop-drop 16 (16 * i) bytes ∙ ap (λ m. drop m bytes) next
+-- are these chunks lawful, one after the other?
+abbrev pub unlawful_of : ℕ → List (List ℕ) → Option LoadRefusal
+unlawful_of place [] = None
+unlawful_of place (chunk ∷ chunks) = lawful_then place (meant chunk) (unlawful_of (place + 1) chunks)
 
-  count : n - i ≡ suc (n - (i + 1))
-  count = omega arith
+pub unlawful_is : (place n : ℕ) (bytes : List ℕ) → unlawful place n bytes ≡ unlawful_of place (first_chunks 16 n bytes)
+unlawful_is place zero bytes = refl
+unlawful_is place (suc n) bytes = ap (lawful_then place (meant (take 16 bytes))) (unlawful_is (place + 1) n (drop 16 bytes))
 
-  -- what the code decoded is what the bundle at its place means
-  pub means_here : (o : Option Bundle) → o ≡ decoded (take ((16 * i + 16) - 16 * i) (drop (16 * i) bytes)) → meant (take 16 (drop (16 * i) bytes)) ≡ o
-  unfolding meant
-  means_here o is = let long : (16 * i + 16) - 16 * i ≡ 16 = omega arith in sym (is ∙ ap (λ m. decoded (take m (drop (16 * i) bytes))) long)
+in_front_is : (o : Option Bundle) (later : List Bundle) → in_front o later ≡ cons_option o later
+in_front_is None later = refl
+in_front_is (Some bundle) later = refl
 
-  asked : (o : Option Bundle) → meant (take 16 (drop (16 * i) bytes)) ≡ o → unlawful i (n - i) (drop (16 * i) bytes) ≡ lawful_then i o (unlawful (i + 1) (n - (i + 1)) (drop (16 * (i + 1)) bytes))
-  asked o is =
-      ap (λ m. unlawful i m (drop (16 * i) bytes)) count
-      ∙ ap (λ p. lawful_then i p (unlawful (i + 1) (n - (i + 1)) (drop 16 (drop (16 * i) bytes)))) is
-      ∙ ap (λ l. lawful_then i o (unlawful (i + 1) (n - (i + 1)) l)) rest
+pub bundles_are : (n : ℕ) (bytes : List ℕ) → bundles_of n bytes ≡ filter_map meant (first_chunks 16 n bytes)
+bundles_are zero bytes = refl
+bundles_are (suc n) bytes = ap (in_front (meant (take 16 bytes))) (bundles_are n (drop 16 bytes)) ∙ in_front_is (meant (take 16 bytes)) (filter_map meant (first_chunks 16 n (drop 16 bytes)))
 
-  pub refuses : unlawful i (n - i) (drop (16 * i) bytes) ≡ unlawful 0 n bytes → meant (take 16 (drop (16 * i) bytes)) ≡ None → unlawful 0 n bytes ≡ Some (Unlawful i)
-  refuses inv none = sym inv ∙ asked None none
+-- what one decodes is what it means
+pub meaning : (o : Option Bundle) (chunk : List ℕ) → o ≡ decoded chunk → meant chunk ≡ o
+unfolding meant
+meaning o chunk is = sym is
 
-  pub passes : (bundle : Bundle) → unlawful i (n - i) (drop (16 * i) bytes) ≡ unlawful 0 n bytes → meant (take 16 (drop (16 * i) bytes)) ≡ Some bundle → unlawful (i + 1) (n - (i + 1)) (drop (16 * (i + 1)) bytes) ≡ unlawful 0 n bytes
-  passes bundle inv some = sym (asked (Some bundle) some) ∙ inv
+module _ (i : ℕ) (chunks : List (List ℕ)) (here : i < length chunks) (inv : unlawful_of i (drop i chunks) ≡ unlawful_of 0 chunks) where
+  turn : (o : Option Bundle) → meant (get_or chunks i []) ≡ o → unlawful_of 0 chunks ≡ lawful_then i o (unlawful_of (i + 1) (drop (i + 1) chunks))
+  turn o is = sym inv ∙ at_drop_more (unlawful_of i) chunks i [] here ∙ ap (λ p. lawful_then i p (unlawful_of (i + 1) (drop (i + 1) chunks))) is
 
-  pub gathers : (bundle : Bundle) (items : List Bundle) → items ++ bundles_of (n - i) (drop (16 * i) bytes) ≡ bundles_of n bytes → meant (take 16 (drop (16 * i) bytes)) ≡ Some bundle
-      → (items ++ bundle ∷ []) ++ bundles_of (n - (i + 1)) (drop (16 * (i + 1)) bytes) ≡ bundles_of n bytes
-  gathers bundle items inv some =
-      append_assoc items (bundle ∷ []) (bundles_of (n - (i + 1)) (drop (16 * (i + 1)) bytes))
-      ∙ ap (λ l. items ++ (bundle ∷ bundles_of (n - (i + 1)) l)) (sym rest)
-      ∙ ap (λ o. items ++ in_front o (bundles_of (n - (i + 1)) (drop 16 (drop (16 * i) bytes)))) (sym some)
-      ∙ ap (λ m. items ++ bundles_of m (drop (16 * i) bytes)) (sym count)
-      ∙ inv
+  pub refuses : meant (get_or chunks i []) ≡ None → unlawful_of 0 chunks ≡ Some (Unlawful i)
+  refuses none = turn None none
+
+  pub passes : (bundle : Bundle) → meant (get_or chunks i []) ≡ Some bundle → unlawful_of (i + 1) (drop (i + 1) chunks) ≡ unlawful_of 0 chunks
+  passes bundle some = sym (turn (Some bundle) some)
+
+  pub gathers : (bundle : Bundle) → meant (get_or chunks i []) ≡ Some bundle → filter_map meant (take (i + 1) chunks) ≡ filter_map meant (take i chunks) ++ bundle ∷ []
+  gathers bundle some = ap (filter_map meant) (take_more chunks i [] here) ∙ filter_map-append meant (take i chunks) (get_or chunks i [] ∷ []) ∙ ap (λ o. filter_map meant (take i chunks) ++ cons_option o []) some

@@ -30,16 +30,13 @@ fn decode_all(heap: Global, bytes: &[u8]) -> Result<Vec<Bundle>, LoadError>
     ensures answers { Decodes result (unlawful 0 (length bytes.now / 16) bytes.now) (bundles_of (length bytes.now / 16) bytes.now) }
     ensures bound { IfOk result (λ bundles. vec_len bundles ≤ 63488) }
 {
-    let count = bytes.len() / BUNDLE;
-    let mut bundles = Vec::with_capacity(heap, count)?;
-    for place in 0..count {
-        let from = BUNDLE * place;
-        let Some(bundle) = Bundle::decode(&bytes[from..from + BUNDLE]) else {
-            return Err(LoadError::Refused(LoadRefusal::Unlawful {
-                bundle: place as u32,
-            }));
+    let (chunks, _) = bytes.as_chunks::<BUNDLE>();
+    let mut bundles = Vec::with_capacity(heap, chunks.len())?;
+    for (place, chunk) in chunks.iter().enumerate() {
+        let unlawful = LoadRefusal::Unlawful {
+            bundle: place as u32,
         };
-        bundles.push_reserved(bundle);
+        bundles.push_reserved(Bundle::decode(chunk).ok_or(unlawful)?);
     }
     Ok(bundles)
 }

@@ -8,7 +8,7 @@ use questions::refusals::Refusal;
 use std::fmt;
 
 // The image's own refusal, or the first bundle that is not lawful.
-#[derive(Clone, Copy, PartialEq, Debug)]
+#[derive(Clone, Copy, PartialEq, Eq, Debug)]
 pub enum LoadRefusal {
     Image(ImageRefusal),
     Unlawful { bundle: u32 },

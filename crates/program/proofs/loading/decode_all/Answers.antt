@@ -1,40 +1,46 @@
-use Rattle.std.proofs.Common.{◌≡◌, ◌+◌, ◌-◌, ◌*◌, ◌/◌, ◌≤◌, ◌++◌, length, drop, Some, None, vec_items, vec_capacity, sym, ap, ◌∙◌, arith}
-use Rattle.std.proofs.lemmas.List.{append-nil}
-use Rattle.program.specs.Loading.{unlawful, bundles_of}
-use Rattle.program.proofs.Decoding.{means_here, refuses, passes, gathers}
+use Rattle.std.proofs.Common.{◌≡◌, ◌∙◌, ◌/◌, ◌++◌, [], ◌∷◌, None, Some, sym, ap, arith, length, take_all}
+use Rattle.std.specs.Result.{result_ok}
+use Rattle.std.proofs.lemmas.List.{at_drop_all}
+use Rattle.std.proofs.lemmas.Result.{err_from_is_err_and}
+use Rattle.std.specs.List.{filter_map}
+use Rattle.program.specs.Loading.{unlawful, meant}
+use Rattle.program.specs.declared.refusals.LoadRefusal.TheVariants.{Unlawful}
+use Rattle.program.proofs.Decoding.{unlawful_of, unlawful_is, bundles_are, meaning, refuses, passes, gathers}
 use Rattle.program.proofs.loading.decode_all.Goals as goal
 
-pub returns-in_default : goal.returns-in_default
-returns-in_default c =
+pub returns-in_err-ok_or-clause-answers : goal.returns-in_err-ok_or-clause-answers
+returns-in_err-ok_or-clause-answers c =
     let bytes = c.args.bytes.now in
+    let chunks = c.as_chunks.result.0.now in
     let place = c.loop-place.place in
     let n = length bytes / 16 in
-    let here = c.loop-place-test.true in
-    record { answers = refuses bytes place n here c.loop-place.invariant.0 (means_here bytes place n here None c.in_default.ensures.value); bound = tt }
+    let none : c.decode.result ≡ None = c.ok_or.ensures.ok_part ∙ ap result_ok c.in_err-ok_or.was in
+    let first : unlawful 0 n bytes ≡ Some (Unlawful place) =
+    unlawful_is 0 n bytes ∙ ap (unlawful_of 0) (sym c.as_chunks.ensures.front) ∙ refuses place chunks c.loop-place-test.true c.loop-place.invariant.asked (meaning _ _ c.decode.ensures.value ∙ none) in
+    let is : Unlawful place ≡ c.in_err-ok_or.field-0.0 = let e = rw none at c.ok_or.ensures.value in let w = c.in_err-ok_or.was in cc (e, w) in
+    let p = err_from_is_err_and c.from_residual-in_err-ok_or.result c.from_residual-in_err-ok_or.ensures.1 in
+    rw (p.1, p.2) (first ∙ ap Some is)
 
 pub loop-place-preserved : goal.loop-place-preserved
 loop-place-preserved c =
-    let bytes = c.args.bytes.now in
-    let place = c.loop-place.place in
-    let n = length bytes / 16 in
     let here = c.loop-place-test.true in
-    let bundle = c.in-Some.bundle in
-    let some = means_here bytes place n here (Some bundle) c.in-Some.ensures.value in
+    let inv = c.loop-place.invariant in
+    let chunks = c.as_chunks.result.0.now in
     let pushed = c.push_reserved.ensures in
-    let room : n ≤ vec_capacity c.push_reserved.new.self = omega (arith, pushed.capacity, c.loop-place.invariant.3) in (
-      passes bytes place n here bundle c.loop-place.invariant.0 some,
-      ap (λ l. l ++ bundles_of (n - (place + 1)) (drop (16 * (place + 1)) bytes)) pushed.items ∙ gathers bytes place n here bundle (vec_items c.loop-place.bundles) c.loop-place.invariant.1 some,
-      pushed.len ∙ ap (λ m. m + 1) c.loop-place.invariant.2,
-      room,
-    )
+    let some = meaning _ _ c.decode.ensures.value ∙ c.ok_or.ensures.ok_part ∙ ap result_ok c.in_ok-ok_or.was in
+    record {
+      asked = passes c.loop-place.place chunks here inv.asked c.in_ok-ok_or.field-0 some;
+      decoded = pushed.items ∙ ap (λ l. l ++ c.in_ok-ok_or.field-0 ∷ []) inv.decoded ∙ sym (gathers c.loop-place.place chunks here inv.asked _ some);
+      counted = omega (arith, pushed.len, inv.counted);
+      room = omega (arith, pushed.capacity, inv.room);
+    }
 
-pub returns : goal.returns
-returns c =
+pub returns-clause-answers : goal.returns-clause-answers
+returns-clause-answers c =
     let bytes = c.args.bytes.now in
-    let place = c.loop-place.place in
     let n = length bytes / 16 in
-    let items = vec_items c.loop-place.bundles in
-    let over : n - place ≡ 0 = omega arith in
-    let asked : unlawful 0 n bytes ≡ None = sym c.loop-place.invariant.0 ∙ ap (λ m. unlawful place m (drop (16 * place) bytes)) over in
-    let all : items ≡ bundles_of n bytes = sym (append-nil items) ∙ sym (ap (λ m. items ++ bundles_of m (drop (16 * place) bytes)) over) ∙ c.loop-place.invariant.1 in
-    record { answers = (asked, all); bound = omega (arith, c.loop-place.invariant.2, c.requires) }
+    let chunks = c.as_chunks.result.0.now in
+    let over = c.loop-place-test.false in (
+      unlawful_is 0 n bytes ∙ ap (unlawful_of 0) (sym c.as_chunks.ensures.front) ∙ sym c.loop-place.invariant.asked ∙ at_drop_all (unlawful_of c.loop-place.place) chunks c.loop-place.place over,
+      c.loop-place.invariant.decoded ∙ ap (filter_map meant) (take_all _ _ over ∙ c.as_chunks.ensures.front) ∙ sym (bundles_are n bytes),
+    )

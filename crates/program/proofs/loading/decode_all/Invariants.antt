@@ -1,11 +1,14 @@
-use Rattle.std.proofs.Common.{◌≡◌, ◌-◌, ◌*◌, ◌≤◌, ◌++◌, drop, vec_items, vec_len, vec_capacity}
-use Rattle.program.specs.Loading.{unlawful, bundles_of}
+use Rattle.std.proofs.Common.{◌≡◌, ◌≤◌, length, take, drop, vec_items, vec_len, vec_capacity}
+use Rattle.std.specs.List.{filter_map}
+use Rattle.program.specs.Loading.{meant}
+use Rattle.program.proofs.Decoding.{unlawful_of}
 use Rattle.program.proofs.loading.decode_all.Given as goal
 
--- what is left gives the whole, of the questions and of the bundles
+-- the bundles so far are lawful, and what is left of the questions gives the whole
 abbrev pub invariant-loop-place : goal.invariant-loop-place
-invariant-loop-place l =
-    (unlawful l.place (l.count - l.place) (drop (16 * l.place) l.bytes) ≡ unlawful 0 l.count l.bytes)
-    × (vec_items l.bundles ++ bundles_of (l.count - l.place) (drop (16 * l.place) l.bytes) ≡ bundles_of l.count l.bytes)
-    × (vec_len l.bundles ≡ l.place)
-    × (l.count ≤ vec_capacity l.bundles)
+invariant-loop-place l = record {
+  asked : unlawful_of l.place (drop l.place l.chunks) ≡ unlawful_of 0 l.chunks;
+  decoded : vec_items l.bundles ≡ filter_map meant (take l.place l.chunks);
+  counted : vec_len l.bundles ≡ l.place;
+  room : length l.chunks ≤ vec_capacity l.bundles;
+}
