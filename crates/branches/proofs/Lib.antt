@@ -1,4 +1,3 @@
-pub mod Asking
-pub mod Distances
-pub mod Places
-pub mod Sets
+pub mod Bits
+pub mod Halves
+pub mod Made

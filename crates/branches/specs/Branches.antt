@@ -7,8 +7,6 @@ use Rattle.branches.specs.declared.branch.Branch.{Branch}
 use Rattle.branches.specs.declared.branch.Choice.{Choice}
 use Rattle.branches.specs.declared.branch.Needed.{Needed}
 use Rattle.branches.specs.declared.branch.Needed.TheVariants.{One, All}
-use Rattle.branches.specs.declared.branch.Taken.{Taken}
-use Rattle.branches.specs.declared.branch.Taken.TheVariants.{Always, If}
 use Rattle.branches.specs.declared.checks.Check.{Check}
 use Rattle.branches.specs.declared.offset.Offset.{Offset}
 use Rattle.branches.specs.declared.stacks.Stacks.{Stacks}
@@ -40,19 +38,19 @@ abbrev pub encoded_choice : Choice → List ℕ
 encoded_choice choice = encoded_check choice.check ∷ (encoded_stacks choice.stacks + 16 * needed_number choice.needed) ∷ []
 
 -- naming no stack means always, and then both bytes are 0
-abbrev pub decoded_taken : ℕ → ℕ → Option Taken
-decoded_taken condition named = cond (condition == 0 && named == 0) (Some Always) (option_map If (decoded_choice condition named))
+abbrev pub decoded_taken : ℕ → ℕ → Option (Option Choice)
+decoded_taken condition named = cond (condition == 0 && named == 0) (Some None) (option_map Some (decoded_choice condition named))
 
 -- the two bytes
-abbrev pub encoded_taken : Taken → List ℕ
-encoded_taken Always = 0 ∷ 0 ∷ []
-encoded_taken (If choice) = encoded_choice choice
+abbrev pub encoded_taken : Option Choice → List ℕ
+encoded_taken None = 0 ∷ 0 ∷ []
+encoded_taken (Some choice) = encoded_choice choice
 
 -- a branch of its two parts, if they are both there
-abbrev pub branch_of : Option Taken → Option Offset → Option Branch
+abbrev pub branch_of : Option (Option Choice) → Option Offset → Option Branch
 branch_of None offset = None
-branch_of (Some taken) None = None
-branch_of (Some taken) (Some offset) = Some (record { taken = taken; offset = offset })
+branch_of (Some choice) None = None
+branch_of (Some choice) (Some offset) = Some (record { choice = choice; offset = offset })
 
 -- the branch that four bytes mean
 abbrev pub decoded_branch : ℕ → ℕ → ℕ → ℕ → Option Branch
@@ -60,4 +58,4 @@ decoded_branch condition named high low = branch_of (decoded_taken condition nam
 
 -- the four bytes of a branch
 abbrev pub encoded_branch : Branch → List ℕ
-encoded_branch branch = encoded_taken branch.taken ++ encoded_offset branch.offset
+encoded_branch branch = encoded_taken branch.choice ++ encoded_offset branch.offset

@@ -1,18 +1,10 @@
 -- Condition bytes: the condition in bits 0 to 3, and bit 4 if it pops.
-use Rattle.std.specs.Prelude.{ℕ, ◌+◌, ◌*◌, ◌/◌, ◌%◌, Bool, true, false, List, [], ◌∷◌, Some, None, Option}
+use Rattle.std.specs.Prelude.{ℕ, ◌+◌, ◌*◌, ◌/◌, ◌%◌, Bool, Some, None, Option}
 use Rattle.branches.specs.declared.checks.Check.{Check}
-use Rattle.operations.specs.Conditions.{condition_number, conditions}
+use Rattle.codes.specs.Bits.{bit, bits}
 use Rattle.std.specs.List.{slice_get}
+use Rattle.words.specs.Numbers.{condition_number, conditions}
 use Rattle.words.specs.declared.condition.Condition.{Condition}
-
--- the values of a bit
-abbrev pub bits : List Bool
-bits = false ∷ true ∷ []
-
--- a truth as a bit
-abbrev pub bit : Bool → ℕ
-bit false = 0
-bit true = 1
 
 -- a check of a condition and its bit, if there are both
 abbrev pub check_of : Option Condition → Option Bool → Option Check

@@ -1,5 +1,6 @@
 pub mod Branches
 pub mod Checks
+pub mod Made
 pub mod Named
 pub mod Near
 pub mod Offsets

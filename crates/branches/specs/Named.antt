@@ -1,6 +1,7 @@
 -- Whether any stack is named.
-use Rattle.std.specs.Prelude.{Bool, ◌||◌}
+use Rattle.std.specs.Prelude.{Bool, false, ◌||◌, List, [], ◌∷◌}
 
 -- one at least
-abbrev pub any_of : Bool → Bool → Bool → Bool → Bool
-any_of zero one two three = zero || (one || (two || three))
+abbrev pub any_of : List Bool → Bool
+any_of [] = false
+any_of (named ∷ others) = named || any_of others

@@ -1,18 +1,19 @@
 -- A branch's offset, in two bytes with the high one first.
-use Rattle.std.specs.Prelude.{◌≡◌, ℕ, ◌+◌, ◌*◌, ◌/◌, ◌%◌, Bool, true, false, List, [], ◌∷◌, ℤ, Some, None, Option, refl}
+use Rattle.std.specs.Prelude.{◌≡◌, ℕ, ◌+◌, ◌*◌, ◌/◌, ◌%◌, Bool, true, false, List, [], ◌∷◌, ℤ, Some, None, Option, Result, MatchResult}
 use Rattle.std.specs.Int.{w16}
 use Rattle.std.proofs.Common.{of_z, to_z}
+use Rattle.branches.specs.Made.{made_if}
 use Rattle.branches.specs.Near.{near}
 use Rattle.branches.specs.declared.offset.Offset.{Offset}
-
--- the offset of so many bundles, where they are known to be near or not
-abbrev pub offset_if : (bundles : ℤ) (is : Bool) → near bundles ≡ is → Option Offset
-offset_if bundles true known = Some (record { bundles = bundles; close = known })
-offset_if bundles false known = None
+use Rattle.branches.specs.declared.offset.TooFar.{TooFar}
 
 -- the offset of so many bundles, if they are near
 abbrev pub offset_of : ℤ → Option Offset
-offset_of bundles = offset_if bundles (near bundles) refl
+offset_of bundles = made_if (near bundles) (λ close. record { bundles = bundles; close = close })
+
+-- the offset of so many bundles, or that they are too far
+abbrev pub IsOffsetOf : ℤ → Result Offset TooFar → Type 0
+IsOffsetOf bundles result = MatchResult result (λ offset. offset.bundles ≡ bundles) (λ error. (error.bundles ≡ bundles) × (near bundles ≡ false))
 
 -- the offset that two bytes mean
 abbrev pub decoded_offset : ℕ → ℕ → Option Offset

@@ -1,31 +1,29 @@
 -- The stacks that a branch names, one bit for each, stack 0 in the lowest.
-use Rattle.std.specs.Prelude.{◌≡◌, ℕ, ◌+◌, ◌*◌, ◌/◌, ◌%◌, Bool, true, false, cond, Some, None, Option, ◌==◌, nat_lt, refl}
-use Rattle.branches.specs.Checks.{bit}
+use Rattle.std.specs.Prelude.{◌≡◌, ℕ, ◌+◌, ◌*◌, ◌/◌, ◌%◌, Bool, true, false, cond, List, [], ◌∷◌, Some, None, Option, ◌==◌, count_by, nat_lt, slice_index_or}
+use Rattle.branches.specs.Made.{made_if}
 use Rattle.branches.specs.Named.{any_of}
 use Rattle.branches.specs.declared.stacks.Stacks.{Stacks}
+use Rattle.codes.specs.Bits.{bit}
+use Rattle.operations.specs.Places.{stack_number}
 use Rattle.operations.specs.declared.places.StackNumber.{StackNumber}
 use Rattle.operations.specs.declared.places.StackNumber.TheVariants.{Zero, One, Two, Three}
 
--- the stacks named, where it is known whether there are any
-abbrev pub stacks_if : (zero one two three is : Bool) → any_of zero one two three ≡ is → Option Stacks
-stacks_if zero one two three true known = Some (record { zero = zero; one = one; two = two; three = three; some = known })
-stacks_if zero one two three false known = None
-
 -- the stacks named, if there are any
-abbrev pub stacks_of : Bool → Bool → Bool → Bool → Option Stacks
-stacks_of zero one two three = stacks_if zero one two three (any_of zero one two three) refl
+abbrev pub stacks_of : List Bool → Option Stacks
+stacks_of named = made_if (any_of named) (λ some. record { named = named; some = some })
 
 -- whether a stack is among them
 abbrev pub names : Stacks → StackNumber → Bool
-names stacks Zero = stacks.zero
-names stacks One = stacks.one
-names stacks Two = stacks.two
-names stacks Three = stacks.three
+names stacks stack = slice_index_or stacks.named (stack_number stack) false
+
+-- how many they are
+abbrev pub named_count : Stacks → ℕ
+named_count stacks = count_by (λ named. named) stacks.named
 
 -- the stacks that four bits name
 abbrev pub decoded_stacks : ℕ → Option Stacks
-decoded_stacks bits = cond (nat_lt bits 16) (stacks_of (bits % 2 == 1) (bits / 2 % 2 == 1) (bits / 4 % 2 == 1) (bits / 8 == 1)) None
+decoded_stacks bits = cond (nat_lt bits 16) (stacks_of ((bits % 2 == 1) ∷ (bits / 2 % 2 == 1) ∷ (bits / 4 % 2 == 1) ∷ (bits / 8 == 1) ∷ [])) None
 
 -- the four bits of named stacks
 abbrev pub encoded_stacks : Stacks → ℕ
-encoded_stacks stacks = bit stacks.zero + 2 * bit stacks.one + 4 * bit stacks.two + 8 * bit stacks.three
+encoded_stacks stacks = bit (names stacks Zero) + 2 * bit (names stacks One) + 4 * bit (names stacks Two) + 8 * bit (names stacks Three)

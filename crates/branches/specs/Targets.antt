@@ -1,16 +1,17 @@
 -- The target of a call or a jump, in four bytes with the high one first.
-use Rattle.std.specs.Prelude.{◌≡◌, ℕ, ◌+◌, ◌*◌, ◌/◌, ◌%◌, Bool, true, false, List, [], ◌∷◌, Some, None, Option, refl}
+use Rattle.std.specs.Prelude.{◌≡◌, ℕ, ◌+◌, ◌*◌, ◌/◌, ◌%◌, Bool, true, false, List, [], ◌∷◌, Some, None, Option, Result, MatchResult, refl}
+use Rattle.branches.specs.Made.{made_if}
 use Rattle.branches.specs.Whole.{whole}
+use Rattle.branches.specs.declared.targets.NoBundle.{NoBundle}
 use Rattle.branches.specs.declared.targets.Target.{Target}
-
--- the target at an address that is known to be a bundle's or not
-abbrev pub target_if : (address : ℕ) (is : Bool) → whole address ≡ is → Option Target
-target_if address true known = Some (record { address = address; bundle = known })
-target_if address false known = None
 
 -- the target at an address, if it is a bundle's
 abbrev pub target_of : ℕ → Option Target
-target_of address = target_if address (whole address) refl
+target_of address = made_if (whole address) (λ bundle. record { address = address; bundle = bundle })
+
+-- the target at an address, or that no bundle stands there
+abbrev pub IsTargetAt : ℕ → Result Target NoBundle → Type 0
+IsTargetAt address result = MatchResult result (λ target. target.address ≡ address) (λ error. (error.address ≡ address) × (whole address ≡ false))
 
 -- the target that four bytes mean
 abbrev pub decoded_target : ℕ → ℕ → ℕ → ℕ → Option Target

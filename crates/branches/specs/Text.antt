@@ -1,21 +1,19 @@
 -- Conditions and branches as people write them.
-use Rattle.std.specs.Prelude.{ℕ, ◌+◌, Bool, false, cond, ◌||◌, List, ◌++◌, codes, decimal, ◌==◌}
-use Rattle.branches.specs.Checks.{bit}
+use Rattle.std.specs.Prelude.{ℕ, Bool, false, cond, ◌||◌, List, [], ◌∷◌, ◌++◌, Some, None, Option, codes, decimal, ◌==◌}
+use Rattle.branches.specs.Stacks.{named_count, names}
 use Rattle.branches.specs.declared.branch.Branch.{Branch}
 use Rattle.branches.specs.declared.branch.Choice.{Choice}
 use Rattle.branches.specs.declared.branch.Needed.{Needed}
 use Rattle.branches.specs.declared.branch.Needed.TheVariants as needed
-use Rattle.branches.specs.declared.branch.Taken.{Taken}
-use Rattle.branches.specs.declared.branch.Taken.TheVariants.{Always, If}
 use Rattle.branches.specs.declared.checks.Check.{Check}
 use Rattle.branches.specs.declared.offset.Offset.{Offset}
 use Rattle.branches.specs.declared.stacks.Stacks.{Stacks}
 use Rattle.branches.specs.declared.targets.Target.{Target}
+use Rattle.operations.specs.Places.{stacks}
 use Rattle.operations.specs.Text.{stack_text}
-use Rattle.operations.specs.Words.{condition_word}
 use Rattle.operations.specs.declared.places.StackNumber.{StackNumber}
-use Rattle.operations.specs.declared.places.StackNumber.TheVariants.{Zero, One, Two, Three}
 use Rattle.std.specs.Fmt.{signed_decimal}
+use Rattle.words.specs.Numbers.{condition_word}
 
 -- a question mark if it pops, else a colon
 abbrev pub check_text : Check → List ℕ
@@ -38,17 +36,14 @@ separator needed.All = codes "&"
 abbrev pub piece_text : Needed → Bool → Bool → StackNumber → List ℕ
 piece_text needed follows named stack = cond named (cond follows (separator needed ++ stack_text stack) (stack_text stack)) (codes "")
 
+-- stacks in a row, the first of which follows another or not
+abbrev pub row_text : Needed → Stacks → Bool → List StackNumber → List ℕ
+row_text needed s follows [] = []
+row_text needed s follows (stack ∷ others) = piece_text needed follows (names s stack) stack ++ row_text needed s (follows || names s stack) others
+
 -- the named stacks in a row
 abbrev pub stacks_text : Needed → Stacks → List ℕ
-stacks_text needed s =
-    piece_text needed false s.zero Zero
-    ++ (piece_text needed s.zero s.one One
-    ++ (piece_text needed (s.zero || s.one) s.two Two
-    ++ piece_text needed (s.zero || s.one || s.two) s.three Three))
-
--- how many stacks are named
-abbrev pub named_count : Stacks → ℕ
-named_count s = bit s.zero + bit s.one + bit s.two + bit s.three
+stacks_text needed s = row_text needed s false stacks
 
 -- whether all must hold of so many
 abbrev pub all_of : Needed → ℕ → Bool
@@ -66,10 +61,10 @@ choice_text choice =
     (stacks_text choice.needed choice.stacks ++ (codes " " ++ check_text choice.check))
 
 -- a branch that is taken always, or by what stacks say
-abbrev pub taken_text : Taken → Offset → List ℕ
-taken_text Always offset = codes "br " ++ offset_text offset
-taken_text (If choice) offset = codes "br " ++ (choice_text choice ++ (codes " " ++ offset_text offset))
+abbrev pub taken_text : Option Choice → Offset → List ℕ
+taken_text None offset = codes "br " ++ offset_text offset
+taken_text (Some choice) offset = codes "br " ++ (choice_text choice ++ (codes " " ++ offset_text offset))
 
 -- a branch
 abbrev pub branch_text : Branch → List ℕ
-branch_text branch = taken_text branch.taken branch.offset
+branch_text branch = taken_text branch.choice branch.offset

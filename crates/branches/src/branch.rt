@@ -1,11 +1,13 @@
 // Branches.
-ghost use Rattle.std.specs.Prelude.{◌≡◌, ◌<◌, [], ◌∷◌, IfSome, Some, slice_index};
-ghost use Rattle.branches.specs.Branches.{decoded_branch, decoded_choice, decoded_taken, encoded_branch, encoded_choice, encoded_taken, needed_number, neededs};
+ghost use Rattle.std.specs.Prelude.{◌≡◌, ◌<◌, Some, slice_index};
+ghost use Rattle.branches.specs.Branches.{decoded_branch, decoded_choice, encoded_branch, encoded_choice, needed_number, neededs};
 ghost use Rattle.std.specs.List.{slice_get};
 
 use super::checks::Check;
 use super::offset::Offset;
 use super::stacks::Stacks;
+use codes::bytes::Coded;
+use codes::numbers::Numbered;
 
 // Whether one stack whose condition holds is enough, or all that are named must hold.
 #[derive(Clone, Copy, PartialEq, Eq, Debug)]
@@ -14,11 +16,14 @@ pub enum Needed {
     All,
 }
 
-impl Needed {
-    fn from_number(number: u8) -> Option<Needed>
-        ensures value { result ≡ slice_get neededs number }
-        ensures only { IfSome result (λ needed. needed_number needed ≡ number) }
-    {
+impl Numbered for Needed {
+    ghost numbered = { slice_get neededs };
+
+    ghost number_of = { needed_number };
+
+    ghost bound = { 2 };
+
+    fn from_number(number: u8) -> Option<Needed> {
         match number {
             0 => Some(Needed::One),
             1 => Some(Needed::All),
@@ -26,11 +31,7 @@ impl Needed {
         }
     }
 
-    fn number(self) -> u8
-        ensures value { result ≡ needed_number self }
-        ensures back { slice_get neededs result ≡ Some self }
-        ensures below { result < 2 }
-    {
+    fn number(self) -> u8 {
         self as u8
     }
 }
@@ -43,85 +44,67 @@ pub struct Choice {
     pub needed: Needed,
 }
 
-impl Choice {
-    pub fn decode(condition: u8, named: u8) -> Option<Choice>
-        ensures value { result ≡ decoded_choice condition named }
-        ensures only { IfSome result (λ choice. encoded_choice choice ≡ condition ∷ named ∷ []) }
-    {
-        let check = Check::decode(condition)?;
-        let stacks = Stacks::decode(named % 16)?;
-        let needed = Needed::from_number(named / 16)?;
+// A condition byte, and the byte that names stacks.
+impl Coded<2> for Choice {
+    ghost decoded = { λ bytes. decoded_choice (slice_index bytes 0) (slice_index bytes 1) };
+
+    ghost encoded = { encoded_choice };
+
+    fn decode(bytes: &[u8; 2]) -> Option<Choice> {
+        let [condition, named] = *bytes;
         Some(Choice {
-            check,
-            stacks,
-            needed,
+            check: Check::from_number(condition)?,
+            stacks: Stacks::from_number(named % 16)?,
+            needed: Needed::from_number(named / 16)?,
         })
     }
 
-    pub fn encode(self) -> [u8; 2]
+    #[tactic(auto, using(crate::proofs::Halves::low_half, crate::proofs::Halves::high_half))]
+    fn encode(self) -> [u8; 2]
         ensures value { result ≡ encoded_choice self }
         ensures back { decoded_choice (slice_index result 0) (slice_index result 1) ≡ Some self }
+        // it names a stack
         ensures some { 0 < slice_index result 1 }
     {
         [
-            self.check.encode(),
-            self.stacks.encode() + 16 * self.needed.number(),
+            self.check.number(),
+            self.stacks.number() + 16 * self.needed.number(),
         ]
     }
 }
 
-// Whether a branch is taken: always, or by what stacks say.
-#[derive(Clone, Copy, PartialEq, Eq, Debug)]
-pub enum Taken {
-    Always,
-    If(Choice),
-}
-
-impl Taken {
-    pub fn decode(condition: u8, named: u8) -> Option<Taken>
-        ensures value { result ≡ decoded_taken condition named }
-        ensures only { IfSome result (λ taken. encoded_taken taken ≡ condition ∷ named ∷ []) }
-    {
-        if condition == 0 && named == 0 {
-            Some(Taken::Always)
-        } else {
-            Some(Taken::If(Choice::decode(condition, named)?))
-        }
-    }
-
-    pub fn encode(self) -> [u8; 2]
-        ensures value { result ≡ encoded_taken self }
-        ensures back { decoded_taken (slice_index result 0) (slice_index result 1) ≡ Some self }
-    {
-        match self {
-            Taken::Always => [0, 0],
-            Taken::If(choice) => choice.encode(),
-        }
-    }
-}
-
+// Where a branch goes, by what stacks say or else always.
 #[derive(Clone, Copy, PartialEq, Eq, Debug)]
 pub struct Branch {
-    pub taken: Taken,
+    pub choice: Option<Choice>,
     pub offset: Offset,
 }
 
-impl Branch {
-    pub fn decode(condition: u8, named: u8, high: u8, low: u8) -> Option<Branch>
-        ensures value { result ≡ decoded_branch condition named high low }
-        ensures only { IfSome result (λ branch. encoded_branch branch ≡ condition ∷ named ∷ high ∷ low ∷ []) }
-    {
-        let taken = Taken::decode(condition, named)?;
-        let offset = Offset::decode(high, low)?;
-        Some(Branch { taken, offset })
+// The bytes of the choice, which are 0 where there is none, and those of the offset.
+impl Coded<4> for Branch {
+    ghost decoded = { λ bytes. decoded_branch (slice_index bytes 0) (slice_index bytes 1) (slice_index bytes 2) (slice_index bytes 3) };
+
+    ghost encoded = { encoded_branch };
+
+    fn decode(bytes: &[u8; 4]) -> Option<Branch> {
+        match *bytes {
+            [0, 0, high, low] => Some(Branch {
+                choice: None,
+                offset: Offset::decode(&[high, low])?,
+            }),
+            [condition, named, high, low] => Some(Branch {
+                choice: Some(Choice::decode(&[condition, named])?),
+                offset: Offset::decode(&[high, low])?,
+            }),
+        }
     }
 
-    pub fn encode(self) -> [u8; 4]
-        ensures value { result ≡ encoded_branch self }
-        ensures back { decoded_branch (slice_index result 0) (slice_index result 1) (slice_index result 2) (slice_index result 3) ≡ Some self }
-    {
-        let [condition, named] = self.taken.encode();
-        let [high, low] = self.offset.encode();
+    fn encode(self) -> [u8; 4] {
+        let [condition, named]: [u8; 2] = match self.choice {
+            Some(choice) => choice.encode(),
+            None => [0, 0],
+        };
+        let [high, low]: [u8; 2] = self.offset.encode();
         [condition, named, high, low]
     }
 }

@@ -1,9 +1,7 @@
 // Condition bytes.
-ghost use Rattle.std.specs.Prelude.{◌≡◌, ◌<◌, IfSome, Some};
-ghost use Rattle.branches.specs.Checks.{bit, bits, decoded_check, encoded_check};
-ghost use Rattle.std.specs.List.{slice_get};
+ghost use Rattle.branches.specs.Checks.{decoded_check, encoded_check};
 
-use operations::conditions::{condition_of, number_of};
+use codes::numbers::Numbered;
 use words::condition::Condition;
 
 // A condition, and whether it pops the word that it looks at.
@@ -13,39 +11,23 @@ pub struct Check {
     pub pops: bool,
 }
 
-impl Check {
-    pub fn decode(byte: u8) -> Option<Check>
-        ensures value { result ≡ decoded_check byte }
-        ensures only { IfSome result (λ check. encoded_check check ≡ byte) }
-    {
-        let condition = condition_of(byte % 16)?;
-        let pops = read_bit(byte / 16)?;
-        Some(Check { condition, pops })
+// A condition byte.
+impl Numbered for Check {
+    ghost numbered = { decoded_check };
+
+    ghost number_of = { encoded_check };
+
+    ghost bound = { 32 };
+
+    fn from_number(number: u8) -> Option<Check> {
+        Some(Check {
+            condition: Condition::from_number(number % 16)?,
+            pops: bool::from_number(number / 16)?,
+        })
     }
 
-    pub fn encode(self) -> u8
-        ensures value { result ≡ encoded_check self }
-        ensures back { decoded_check result ≡ Some self }
-    {
-        number_of(self.condition) + 16 * write_bit(self.pops)
+    #[tactic(auto, using(crate::proofs::Halves::low_half, crate::proofs::Halves::high_half))]
+    fn number(self) -> u8 {
+        self.condition.number() + 16 * self.pops.number()
     }
-}
-
-fn read_bit(number: u8) -> Option<bool>
-    ensures value { result ≡ slice_get bits number }
-    ensures only { IfSome result (λ set. bit set ≡ number) }
-{
-    match number {
-        0 => Some(false),
-        1 => Some(true),
-        _ => None,
-    }
-}
-
-pub(super) fn write_bit(set: bool) -> u8
-    ensures value { result ≡ bit set }
-    ensures back { slice_get bits result ≡ Some set }
-    ensures below { result < 2 }
-{
-    if set { 1 } else { 0 }
 }

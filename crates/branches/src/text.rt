@@ -1,25 +1,31 @@
 // Conditions and branches as people write them: `?u>=`, `br 0&2 :0= -3`.
 ghost use Rattle.std.specs.Prelude.{◌≡◌, Some};
-ghost use Rattle.branches.specs.Text.{branch_text, check_text, choice_text, is_lone, offset_text, piece_text, separator, stacks_text, target_text};
+ghost use Rattle.branches.specs.Text.{branch_text, check_text, choice_text, is_lone, offset_text, separator, stacks_text, target_text};
 
-use super::branch::{Branch, Choice, Needed, Taken};
-use super::checks::{Check, write_bit};
+use super::branch::{Branch, Choice, Needed};
+use super::checks::Check;
 use super::offset::Offset;
 use super::stacks::Stacks;
 use super::targets::Target;
 use operations::places::StackNumber;
-use operations::wording::condition_word;
 use std::fmt;
+
+const STACKS: [StackNumber; 4] = [
+    StackNumber::Zero,
+    StackNumber::One,
+    StackNumber::Two,
+    StackNumber::Three,
+];
 
 impl fmt::Display for Check {
     ghost output = { λ check. Some (check_text check) };
 
     fn fmt<W: fmt::Write>(&self, f: &mut fmt::Formatter<W>) -> fmt::Result {
-        let word = condition_word(self.condition);
+        let condition = self.condition;
         if self.pops {
-            write!(f, "?{word}")
+            write!(f, "?{condition}")
         } else {
-            write!(f, ":{word}")
+            write!(f, ":{condition}")
         }
     }
 }
@@ -28,7 +34,7 @@ impl fmt::Display for Offset {
     ghost output = { λ offset. Some (offset_text offset) };
 
     fn fmt<W: fmt::Write>(&self, f: &mut fmt::Formatter<W>) -> fmt::Result {
-        write!(f, "{}", self.bundles())
+        write!(f, "{}", i16::from(*self))
     }
 }
 
@@ -36,7 +42,7 @@ impl fmt::Display for Target {
     ghost output = { λ target. Some (target_text target) };
 
     fn fmt<W: fmt::Write>(&self, f: &mut fmt::Formatter<W>) -> fmt::Result {
-        write!(f, "{}", self.address())
+        write!(f, "{}", u32::from(*self))
     }
 }
 
@@ -44,39 +50,14 @@ impl fmt::Display for Needed {
     ghost output = { λ needed. Some (separator needed) };
 
     fn fmt<W: fmt::Write>(&self, f: &mut fmt::Formatter<W>) -> fmt::Result {
-        match self {
-            Needed::One => f.write_str("|"),
-            Needed::All => f.write_str("&"),
-        }
+        f.write_str(match self {
+            Needed::One => "|",
+            Needed::All => "&",
+        })
     }
 }
 
-// A stack in a row of named ones: nothing if it is not named, a separator first if it follows another.
-#[derive(Clone, Copy)]
-struct Piece {
-    needed: Needed,
-    follows: bool,
-    named: bool,
-    stack: StackNumber,
-}
-
-impl fmt::Display for Piece {
-    ghost output = { λ it. Some (piece_text it.needed it.follows it.named it.stack) };
-
-    fn fmt<W: fmt::Write>(&self, f: &mut fmt::Formatter<W>) -> fmt::Result {
-        let needed = self.needed;
-        let stack = self.stack;
-        if !self.named {
-            f.write_str("")
-        } else if self.follows {
-            write!(f, "{needed}{stack}")
-        } else {
-            write!(f, "{stack}")
-        }
-    }
-}
-
-// The named stacks in a row.
+// The named stacks in a row, with a separator between any two.
 #[derive(Clone, Copy)]
 struct Row {
     needed: Needed,
@@ -88,35 +69,18 @@ impl fmt::Display for Row {
 
     fn fmt<W: fmt::Write>(&self, f: &mut fmt::Formatter<W>) -> fmt::Result {
         let needed = self.needed;
-        let zero = self.stacks.names(StackNumber::Zero);
-        let one = self.stacks.names(StackNumber::One);
-        let two = self.stacks.names(StackNumber::Two);
-        let three = self.stacks.names(StackNumber::Three);
-        let a = Piece {
-            needed,
-            follows: false,
-            named: zero,
-            stack: StackNumber::Zero,
-        };
-        let b = Piece {
-            needed,
-            follows: zero,
-            named: one,
-            stack: StackNumber::One,
-        };
-        let c = Piece {
-            needed,
-            follows: zero || one,
-            named: two,
-            stack: StackNumber::Two,
-        };
-        let d = Piece {
-            needed,
-            follows: zero || one || two,
-            named: three,
-            stack: StackNumber::Three,
-        };
-        write!(f, "{a}{b}{c}{d}")
+        let mut follows = false;
+        for stack in STACKS {
+            if self.stacks.names(stack) {
+                if follows {
+                    write!(f, "{needed}{stack}")?;
+                } else {
+                    write!(f, "{stack}")?;
+                }
+                follows = true;
+            }
+        }
+        Ok(())
     }
 }
 
@@ -124,14 +88,7 @@ impl fmt::Display for Row {
 fn is_lone(choice: Choice) -> bool
     ensures { result ≡ is_lone choice }
 {
-    let zero = write_bit(choice.stacks.names(StackNumber::Zero));
-    let one = write_bit(choice.stacks.names(StackNumber::One));
-    let two = write_bit(choice.stacks.names(StackNumber::Two));
-    let three = write_bit(choice.stacks.names(StackNumber::Three));
-    match choice.needed {
-        Needed::One => false,
-        Needed::All => zero + one + two + three == 1,
-    }
+    choice.needed == Needed::All && choice.stacks.count() == 1
 }
 
 impl fmt::Display for Choice {
@@ -156,9 +113,9 @@ impl fmt::Display for Branch {
 
     fn fmt<W: fmt::Write>(&self, f: &mut fmt::Formatter<W>) -> fmt::Result {
         let offset = self.offset;
-        match self.taken {
-            Taken::Always => write!(f, "br {offset}"),
-            Taken::If(choice) => write!(f, "br {choice} {offset}"),
+        match self.choice {
+            Some(choice) => write!(f, "br {choice} {offset}"),
+            None => write!(f, "br {offset}"),
         }
     }
 }

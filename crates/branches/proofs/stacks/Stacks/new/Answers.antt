@@ -1,5 +1,6 @@
-use Rattle.branches.proofs.Sets.{made_stacks}
+use Rattle.std.proofs.Common.{sym}
+use Rattle.branches.proofs.Made.{stacks_of_named}
 use Rattle.branches.proofs.stacks.Stacks.new.Goals as goal
 
-pub returns-then-three : goal.returns-then-three
-returns-then-three c = made_stacks _
+pub returns-then-three-clause-value : goal.returns-then-three-clause-value
+returns-then-three-clause-value c = sym (stacks_of_named _)
