@@ -1,5 +1,5 @@
 -- Named stacks come back from their four bits.
-use Rattle.std.proofs.Common.{◌≡◌, ℕ, Bool, List, [], ◌∷◌, length, Some, ap, ◌∙◌, arith}
+use Rattle.std.proofs.Common.{◌≡◌, ℕ, Bool, List, [], ◌∷◌, length, Some, ◌∙◌, arith}
 use Rattle.branches.proofs.Made.{stacks_of_named}
 use Rattle.branches.specs.Stacks.{decoded_stacks, encoded_stacks, stacks_of}
 use Rattle.branches.specs.declared.stacks.Stacks.{Stacks}

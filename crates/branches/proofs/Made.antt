@@ -1,5 +1,5 @@
 -- A value that needs a fact is made where the fact is known.
-use Rattle.std.proofs.Common.{◌≡◌, ℕ, Bool, true, false, Some, refl, ap, ◌∙◌}
+use Rattle.std.proofs.Common.{◌≡◌, Bool, true, false, Some, refl, ap}
 use mathlib.Core.Bool.{Bool-set}
 use Rattle.branches.specs.Made.{made_if}
 use Rattle.branches.specs.Offsets.{offset_of}

@@ -1,5 +1,5 @@
 -- The stacks that a branch names, one bit for each, stack 0 in the lowest.
-use Rattle.std.specs.Prelude.{◌≡◌, ℕ, ◌+◌, ◌*◌, ◌/◌, ◌%◌, Bool, true, false, cond, List, [], ◌∷◌, Some, None, Option, ◌==◌, count_by, nat_lt, slice_index_or}
+use Rattle.std.specs.Prelude.{ℕ, ◌+◌, ◌*◌, ◌/◌, ◌%◌, Bool, false, cond, List, [], ◌∷◌, None, Option, ◌==◌, count_by, nat_lt, slice_index_or}
 use Rattle.branches.specs.Made.{made_if}
 use Rattle.branches.specs.Named.{any_of}
 use Rattle.branches.specs.declared.stacks.Stacks.{Stacks}

@@ -1,5 +1,5 @@
 -- The target of a call or a jump, in four bytes with the high one first.
-use Rattle.std.specs.Prelude.{◌≡◌, ℕ, ◌+◌, ◌*◌, ◌/◌, ◌%◌, Bool, true, false, List, [], ◌∷◌, Some, None, Option, Result, MatchResult, refl}
+use Rattle.std.specs.Prelude.{◌≡◌, ℕ, ◌+◌, ◌*◌, ◌/◌, ◌%◌, false, List, [], ◌∷◌, Option, Result, MatchResult}
 use Rattle.branches.specs.Made.{made_if}
 use Rattle.branches.specs.Whole.{whole}
 use Rattle.branches.specs.declared.targets.NoBundle.{NoBundle}

@@ -7,7 +7,9 @@ use Rattle.branches.specs.declared.branch.Needed.{Needed}
 use Rattle.branches.specs.declared.branch.Needed.TheVariants as needed
 use Rattle.branches.specs.declared.checks.Check.{Check}
 use Rattle.branches.specs.declared.offset.Offset.{Offset}
+use Rattle.branches.specs.declared.offset.TooFar.{TooFar}
 use Rattle.branches.specs.declared.stacks.Stacks.{Stacks}
+use Rattle.branches.specs.declared.targets.NoBundle.{NoBundle}
 use Rattle.branches.specs.declared.targets.Target.{Target}
 use Rattle.operations.specs.Places.{stacks}
 use Rattle.operations.specs.Text.{stack_text}
@@ -26,6 +28,14 @@ offset_text offset = signed_decimal offset.bundles
 -- an address
 abbrev pub target_text : Target → List ℕ
 target_text target = decimal target.address
+
+-- what is said of an offset that is too far
+abbrev pub too_far_text : TooFar → List ℕ
+too_far_text error = codes "a branch by " ++ (signed_decimal error.bundles ++ codes " bundles goes too far")
+
+-- what is said of an address where no bundle stands
+abbrev pub no_bundle_text : NoBundle → List ℕ
+no_bundle_text error = codes "no bundle stands at address " ++ decimal error.address
 
 -- between stacks of which one is enough, or of which all must hold
 abbrev pub separator : Needed → List ℕ

@@ -87,16 +87,15 @@ impl Coded<4> for Branch {
     ghost encoded = { encoded_branch };
 
     fn decode(bytes: &[u8; 4]) -> Option<Branch> {
-        match *bytes {
-            [0, 0, high, low] => Some(Branch {
-                choice: None,
-                offset: Offset::decode(&[high, low])?,
-            }),
-            [condition, named, high, low] => Some(Branch {
-                choice: Some(Choice::decode(&[condition, named])?),
-                offset: Offset::decode(&[high, low])?,
-            }),
-        }
+        let [condition, named, high, low] = *bytes;
+        let choice = match [condition, named] {
+            [0, 0] => None,
+            asked => Some(Choice::decode(&asked)?),
+        };
+        Some(Branch {
+            choice,
+            offset: Offset::decode(&[high, low])?,
+        })
     }
 
     fn encode(self) -> [u8; 4] {

@@ -4,7 +4,6 @@ ghost use Rattle.branches.specs.Near.{near};
 
 use codes::bytes::Coded;
 use std::error::Error;
-use std::fmt;
 
 // A signed number of bundles, counted from the next one: -1,024 to 1,023.
 #[derive(Clone, Copy, PartialEq, Eq, Debug)]
@@ -59,12 +58,6 @@ impl Coded<2> for Offset {
 
     fn encode(self) -> [u8; 2] {
         self.bundles.to_be_bytes()
-    }
-}
-
-impl fmt::Display for TooFar {
-    fn fmt<W: fmt::Write>(&self, f: &mut fmt::Formatter<W>) -> fmt::Result {
-        write!(f, "{} bundles are too far for a branch", self.bundles)
     }
 }
 

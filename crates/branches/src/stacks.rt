@@ -20,8 +20,7 @@ impl Stacks {
         ensures value { result ≡ stacks_of named }
         ensures only { IfSome result (λ stacks. stacks.named ≡ named) }
     {
-        let [zero, one, two, three] = named;
-        if zero || one || two || three {
+        if named.contains(&true) {
             Some(Stacks { named })
         } else {
             None

@@ -4,7 +4,6 @@ ghost use Rattle.branches.specs.Whole.{whole};
 
 use codes::bytes::Coded;
 use std::error::Error;
-use std::fmt;
 
 // The address of a bundle: a multiple of 8.
 #[derive(Clone, Copy, PartialEq, Eq, Debug)]
@@ -59,12 +58,6 @@ impl Coded<4> for Target {
 
     fn encode(self) -> [u8; 4] {
         self.address.to_be_bytes()
-    }
-}
-
-impl fmt::Display for NoBundle {
-    fn fmt<W: fmt::Write>(&self, f: &mut fmt::Formatter<W>) -> fmt::Result {
-        write!(f, "no bundle stands at address {}", self.address)
     }
 }
 

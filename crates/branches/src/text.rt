@@ -1,12 +1,12 @@
 // Conditions and branches as people write them: `?u>=`, `br 0&2 :0= -3`.
 ghost use Rattle.std.specs.Prelude.{◌≡◌, Some};
-ghost use Rattle.branches.specs.Text.{branch_text, check_text, choice_text, is_lone, offset_text, separator, stacks_text, target_text};
+ghost use Rattle.branches.specs.Text.{branch_text, check_text, choice_text, is_lone, no_bundle_text, offset_text, separator, stacks_text, target_text, too_far_text};
 
 use super::branch::{Branch, Choice, Needed};
 use super::checks::Check;
-use super::offset::Offset;
+use super::offset::{Offset, TooFar};
 use super::stacks::Stacks;
-use super::targets::Target;
+use super::targets::{NoBundle, Target};
 use operations::places::StackNumber;
 use std::fmt;
 
@@ -43,6 +43,22 @@ impl fmt::Display for Target {
 
     fn fmt<W: fmt::Write>(&self, f: &mut fmt::Formatter<W>) -> fmt::Result {
         write!(f, "{}", u32::from(*self))
+    }
+}
+
+impl fmt::Display for TooFar {
+    ghost output = { λ error. Some (too_far_text error) };
+
+    fn fmt<W: fmt::Write>(&self, f: &mut fmt::Formatter<W>) -> fmt::Result {
+        write!(f, "a branch by {} bundles goes too far", self.bundles)
+    }
+}
+
+impl fmt::Display for NoBundle {
+    ghost output = { λ error. Some (no_bundle_text error) };
+
+    fn fmt<W: fmt::Write>(&self, f: &mut fmt::Formatter<W>) -> fmt::Result {
+        write!(f, "no bundle stands at address {}", self.address)
     }
 }
 
