@@ -1,5 +1,5 @@
 -- Bundles as people write them: the operations, then the tail, with semicolons between.
-use Rattle.std.specs.Prelude.{ℕ, List, ◌++◌, codes}
+use Rattle.std.specs.Prelude.{ℕ, map, List, [], ◌∷◌, ◌++◌, codes}
 use Rattle.branches.specs.Text.{branch_text, check_text, target_text}
 use Rattle.bundles.specs.declared.bundle.Bundle.{Bundle}
 use Rattle.bundles.specs.declared.ending.Ending.{Ending}
@@ -15,9 +15,15 @@ use Rattle.operations.specs.Text.{operation_text}
 abbrev pub beside : List ℕ → List ℕ → List ℕ
 beside left right = left ++ (codes "; " ++ right)
 
+-- texts in a row
+abbrev pub in_a_row : List (List ℕ) → List ℕ
+in_a_row [] = []
+in_a_row (text ∷ []) = text
+in_a_row (text ∷ next ∷ texts) = beside text (in_a_row (next ∷ texts))
+
 -- the checks of stacks 0 to 3
 abbrev pub setup_text : Setup → List ℕ
-setup_text s = beside (check_text s.zero) (beside (check_text s.one) (beside (check_text s.two) (check_text s.three)))
+setup_text setup = in_a_row (map check_text setup.checks)
 
 -- both moves, four checks, or a branch
 abbrev pub tail_text : Tail → List ℕ
@@ -33,4 +39,4 @@ ending_text (Jump target) = codes "jmp " ++ target_text target
 
 -- a bundle
 abbrev pub bundle_text : Bundle → List ℕ
-bundle_text b = beside (operation_text b.slot0) (beside (operation_text b.slot1) (beside (operation_text b.slot2) (ending_text b.ending)))
+bundle_text bundle = in_a_row (map operation_text bundle.slots ++ ending_text bundle.ending ∷ [])

@@ -12,10 +12,7 @@ impl fmt::Display for Setup {
     ghost output = { λ setup. Some (setup_text setup) };
 
     fn fmt<W: fmt::Write>(&self, f: &mut fmt::Formatter<W>) -> fmt::Result {
-        let zero = self.zero;
-        let one = self.one;
-        let two = self.two;
-        let three = self.three;
+        let [zero, one, two, three] = self.checks;
         write!(f, "{zero}; {one}; {two}; {three}")
     }
 }
@@ -25,17 +22,18 @@ impl fmt::Display for Tail {
 
     fn fmt<W: fmt::Write>(&self, f: &mut fmt::Formatter<W>) -> fmt::Result {
         match self {
-            Tail::Moves(even, odd) => {
-                let even = SideMove {
+            Tail::Moves(even, odd) => write!(
+                f,
+                "{}; {}",
+                SideMove {
                     side: Side::Even,
                     made: *even,
-                };
-                let odd = SideMove {
+                },
+                SideMove {
                     side: Side::Odd,
                     made: *odd,
-                };
-                write!(f, "{even}; {odd}")
-            }
+                }
+            ),
             Tail::Setup(setup) => write!(f, "{setup}"),
             Tail::Branch(branch) => write!(f, "{branch}"),
         }
@@ -58,10 +56,7 @@ impl fmt::Display for Bundle {
     ghost output = { λ bundle. Some (bundle_text bundle) };
 
     fn fmt<W: fmt::Write>(&self, f: &mut fmt::Formatter<W>) -> fmt::Result {
-        let slot0 = self.slot0;
-        let slot1 = self.slot1;
-        let slot2 = self.slot2;
-        let ending = self.ending;
-        write!(f, "{slot0}; {slot1}; {slot2}; {ending}")
+        let [zero, one, two] = self.slots;
+        write!(f, "{zero}; {one}; {two}; {}", self.ending)
     }
 }
