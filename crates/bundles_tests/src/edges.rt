@@ -1,5 +1,6 @@
 // The edges of every format: lawful bytes come back, and unlawful ones are refused.
 use bundles::bundle::Bundle;
+use codes::bytes::Coded;
 use std::process::Abort;
 use std::test::Fail;
 
@@ -19,10 +20,10 @@ fn check_unlawful(rt: &impl Abort, bytes: [u8; 16]) {
 
 #[test]
 fn sixteen_bytes(rt: HostRuntime) {
-    assert!(rt; Bundle::decode(&[]).is_none());
-    assert!(rt; Bundle::decode(&[0; 15]).is_none());
-    assert!(rt; Bundle::decode(&[0; 16]).is_some());
-    assert!(rt; Bundle::decode(&[0; 17]).is_none());
+    assert!(rt; Bundle::read(&[]).is_none());
+    assert!(rt; Bundle::read(&[0; 15]).is_none());
+    assert!(rt; Bundle::read(&[0; 16]).is_some());
+    assert!(rt; Bundle::read(&[0; 17]).is_none());
 }
 
 #[test]

@@ -1,5 +1,7 @@
 // Every pair of bytes, against counts worked out by hand.
 use branches::checks::Check;
+use codes::bytes::Coded;
+use codes::numbers::Numbered;
 use moves::moving::Move;
 use operations::operation::Operation;
 
@@ -8,7 +10,7 @@ fn lawful_arguments(number: u8) -> (u16, bool) {
     let mut lawful: u16 = 0;
     let mut back = true;
     for argument in 0..256u16 {
-        if let Some(operation) = Operation::decode(number, argument as u8) {
+        if let Some(operation) = Operation::decode(&[number, argument as u8]) {
             lawful = lawful.wrapping_add(1);
             back = back && operation.encode() == [number, argument as u8];
         }
@@ -47,7 +49,7 @@ fn lawful_moves(value: u8) -> (u16, bool) {
     let mut back = true;
     for code in 0..256u16 {
         for selector in 0..256u16 {
-            if let Some(made) = Move::decode(code as u8, selector as u8, value) {
+            if let Some(made) = Move::decode(&[code as u8, selector as u8, value]) {
                 lawful = lawful.wrapping_add(1);
                 back = back && made.encode() == [code as u8, selector as u8, value];
             }
@@ -72,8 +74,8 @@ fn every_code_with_every_selector(rt: HostRuntime) {
 #[test]
 fn thirty_two_condition_bytes(rt: HostRuntime) {
     for byte in 0..256u16 {
-        match Check::decode(byte as u8) {
-            Some(asked) => assert_eq!(rt; (byte < 32, asked.encode()), (true, byte as u8)),
+        match Check::from_number(byte as u8) {
+            Some(asked) => assert_eq!(rt; (byte < 32, asked.number()), (true, byte as u8)),
             None => assert!(rt; byte >= 32),
         }
     }

@@ -8,7 +8,7 @@ fn check_text(
     bytes: [u8; 16],
     expected: &str,
 ) -> Result<(), Fail> {
-    match Bundle::decode(&bytes) {
+    match Bundle::read(&bytes) {
         Some(bundle) => {
             let text = bundle.to_string(rt.alloc())?;
             assert_eq!(rt; text.as_str(), expected);
