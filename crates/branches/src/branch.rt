@@ -73,7 +73,7 @@ impl Coded<2> for Choice {
     }
 }
 
-// Where a branch goes, by what stacks say or else always.
+// A branch is taken by what stacks say, or always where there is no choice.
 #[derive(Clone, Copy, PartialEq, Eq, Debug)]
 pub struct Branch {
     pub choice: Option<Choice>,
@@ -99,10 +99,7 @@ impl Coded<4> for Branch {
     }
 
     fn encode(self) -> [u8; 4] {
-        let [condition, named]: [u8; 2] = match self.choice {
-            Some(choice) => choice.encode(),
-            None => [0, 0],
-        };
+        let [condition, named] = self.choice.map_or([0, 0], Choice::encode);
         let [high, low]: [u8; 2] = self.offset.encode();
         [condition, named, high, low]
     }

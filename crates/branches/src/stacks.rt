@@ -65,10 +65,12 @@ impl Numbered for Stacks {
         }
     }
 
+    #[tactic(auto, using(crate::proofs::Bits::stacks_back))]
     fn number(self) -> u8
         ensures value { result ≡ encoded_stacks self }
         ensures back { decoded_stacks result ≡ Some self }
         ensures below { result < 16 }
+        // one is named
         ensures some { 0 < result }
     {
         let [zero, one, two, three] = self.named;

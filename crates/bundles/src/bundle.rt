@@ -9,6 +9,7 @@ use operations::kinds::Special;
 use operations::operation::Operation;
 use operations::places::StackNumber;
 
+// Slots 0 to 2; slot 3 is a part of the ending.
 #[derive(Clone, Copy, PartialEq, Eq, Debug)]
 pub struct Bundle {
     pub slots: [Operation; 3],

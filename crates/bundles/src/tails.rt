@@ -7,7 +7,7 @@ use codes::bytes::Coded;
 use codes::numbers::Numbered;
 use moves::moving::Move;
 
-// A check for each stack.
+// A check for each stack, by the stacks' numbers.
 #[derive(Clone, Copy, PartialEq, Eq, Debug)]
 pub struct Setup {
     pub checks: [Check; 4],
