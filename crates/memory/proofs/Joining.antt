@@ -1,5 +1,5 @@
 -- A question to a join is the same question to its front or its back.
-use Rattle.std.proofs.Common.{◌≡◌, ℕ, ◌+◌, ◌-◌, ◌<◌, ◌≤◌, min, ltb, List, ◌++◌, length, take, drop, set, Some, None, Option, sym, refl, ap, ◌∙◌, ⊎_elim, arith, length-append, length-take}
+use Rattle.std.proofs.Common.{◌≡◌, ℕ, ◌+◌, ◌<◌, min, ltb, List, ◌++◌, length, take, drop, set, Some, None, Option, sym, refl, ap, ◌∙◌, ⊎_elim, arith, length-append, length-take}
 use lib.Seq.{take-set-lt}
 use Rattle.std.proofs.lemmas.List.{get_or-take, get_or_append_left, get_or-append_right, set-append_left, set-append_right, drop-set-lt}
 use Rattle.std.proofs.lemmas.Bool.{lt-ltb, le-ltb, cases_lt}
@@ -7,6 +7,7 @@ use Rattle.questions.specs.Questions.{answered, held_after}
 use Rattle.memory.specs.declared.refusals.MemoryRefusal.{MemoryRefusal}
 use Rattle.memory.specs.Cells.{Cell, cell_at, open_cell, spoiled_cell, write_asks, marked, read_out, wrote, written}
 use Rattle.memory.specs.Joins.{joined, cut_off}
+use Rattle.memory.proofs.Answers as answers
 
 ltb_same : (i m j n : ℕ) → (i < m → j < n) → (j < n → i < m) → ltb i m ≡ ltb j n
 ltb_same i m j n to from =
@@ -14,23 +15,23 @@ ltb_same i m j n to from =
     (λ h. le-ltb i m h ∙ sym (le-ltb j n (⊎_elim (λ k. absurd (omega (arith, from k))) (λ k. k) (cases_lt j n)))) (cases_lt i m)
 
 -- the same cell at two places of two lists
-pub record Same (xs ys : List Cell) (i j : ℕ) : Type 0 where
-  pub reach : ltb i (length xs) ≡ ltb j (length ys)
-  pub cell : cell_at xs i ≡ cell_at ys j
+record Same (xs ys : List Cell) (i j : ℕ) : Type 0 where
+  reach : ltb i (length xs) ≡ ltb j (length ys)
+  cell : cell_at xs i ≡ cell_at ys j
 
 module _ (xs ys : List Cell) (i j : ℕ) (s : Same xs ys i j) where
-  pub same-marked : marked xs i ≡ marked ys j
+  same-marked : marked xs i ≡ marked ys j
   unfolding marked
   same-marked = simp (s.reach, s.cell)
 
-  pub same_read : read_out xs i ≡ read_out ys j
+  same_read : read_out xs i ≡ read_out ys j
   unfolding read_out
   same_read = simp (s.reach, s.cell)
 
   same_asks : write_asks xs i ≡ write_asks ys j
   same_asks = simp (s.reach, s.cell)
 
-  pub same-wrote : wrote xs i ≡ wrote ys j
+  same-wrote : wrote xs i ≡ wrote ys j
   unfolding wrote
   same-wrote = ap (λ o. answered o tt) same_asks
 
@@ -48,46 +49,72 @@ unfolding joined
 length-joined f b = simp (length-take, length-append) (omega arith)
 
 module _ (f b : List Cell) (at : ℕ) (low : at < 4194304) where
-  pub in_front : at < length f → Same f (joined f b) at at
-  unfolding joined
-  in_front h = record {
-    reach = lt-ltb at (length f) h ∙ sym (lt-ltb at (length (joined f b)) (omega (arith, length-joined f b)));
-    cell = sym (get_or-take 4194304 (f ++ b) at spoiled_cell low ∙ get_or_append_left f b spoiled_cell at h);
-  }
+  module _ (here : at < length f) where
+    in_front : Same f (joined f b) at at
+    unfolding joined
+    in_front = record {
+      reach = lt-ltb at (length f) here ∙ sym (lt-ltb at (length (joined f b)) (omega (arith, length-joined f b)));
+      cell = sym (get_or-take 4194304 (f ++ b) at spoiled_cell low ∙ get_or_append_left f b spoiled_cell at here);
+    }
 
-  pub in_back : length f ≤ at → Same b (joined f b) (at - length f) at
-  unfolding joined
-  in_back h = record {
-    reach = ltb_same (at - length f) (length b) at (length (joined f b)) (λ k. omega (arith, length-joined f b)) (λ k. omega (arith, length-joined f b));
-    cell = sym (get_or-take 4194304 (f ++ b) at spoiled_cell low ∙ get_or-append_right f b (length f) at spoiled_cell refl h);
-  }
+    pub front_marked : marked (joined f b) at ≡ marked f at
+    front_marked = sym (same-marked f (joined f b) at at in_front)
 
-  pub front-written : (byte : ℕ) → at < length f → joined (written f at byte) b ≡ written (joined f b) at byte
-  unfolding written joined
-  front-written byte h =
-      let put : joined (set f at (open_cell byte)) b ≡ set (joined f b) at (open_cell byte) =
-      ap (take 4194304) (sym (set-append_left f b at (open_cell byte) h)) ∙ take-set-lt 4194304 (f ++ b) at (open_cell byte) low in
-      through (λ x. joined x b) (write_asks f at) (set f at (open_cell byte)) f
-      ∙ ap (λ x. held_after (write_asks f at) x (joined f b)) put
-      ∙ ap (λ o. held_after o (set (joined f b) at (open_cell byte)) (joined f b)) (same_asks f (joined f b) at at (in_front h))
+    pub front_read : read_out (joined f b) at ≡ read_out f at
+    front_read = sym (same_read f (joined f b) at at in_front)
 
-  pub back_written : (byte : ℕ) → length f ≤ at → joined f (written b (at - length f) byte) ≡ written (joined f b) at byte
-  unfolding written joined
-  back_written byte h =
-      let put : joined f (set b (at - length f) (open_cell byte)) ≡ set (joined f b) at (open_cell byte) =
-      ap (take 4194304) (sym (set-append_right f b (length f) at (open_cell byte) refl h)) ∙ take-set-lt 4194304 (f ++ b) at (open_cell byte) low in
-      through (joined f) (write_asks b (at - length f)) (set b (at - length f) (open_cell byte)) b
-      ∙ ap (λ x. held_after (write_asks b (at - length f)) x (joined f b)) put
-      ∙ ap (λ o. held_after o (set (joined f b) at (open_cell byte)) (joined f b)) (same_asks b (joined f b) (at - length f) at (in_back h))
+    pub front_wrote : wrote (joined f b) at ≡ wrote f at
+    front_wrote = sym (same-wrote f (joined f b) at at in_front)
 
-  pub front_cut : (byte : ℕ) → at < length f → cut_off f b ≡ cut_off (written f at byte) b
-  unfolding written cut_off
-  front_cut byte h =
-      sym (untouched (λ x. cut_off x b) (write_asks f at) (set f at (open_cell byte)) f
-      (ap (drop 4194304) (sym (set-append_left f b at (open_cell byte) h)) ∙ drop-set-lt 4194304 (f ++ b) at (open_cell byte) low))
+    pub front_written : (byte : ℕ) → written (joined f b) at byte ≡ joined (written f at byte) b
+    unfolding written joined
+    front_written byte =
+        let put : joined (set f at (open_cell byte)) b ≡ set (joined f b) at (open_cell byte) =
+        ap (take 4194304) (sym (set-append_left f b at (open_cell byte) here)) ∙ take-set-lt 4194304 (f ++ b) at (open_cell byte) low in
+        sym (through (λ x. joined x b) (write_asks f at) (set f at (open_cell byte)) f
+        ∙ ap (λ x. held_after (write_asks f at) x (joined f b)) put
+        ∙ ap (λ o. held_after o (set (joined f b) at (open_cell byte)) (joined f b)) (same_asks f (joined f b) at at in_front))
 
-  pub back_cut : (byte : ℕ) → length f ≤ at → cut_off f b ≡ cut_off f (written b (at - length f) byte)
-  unfolding written cut_off
-  back_cut byte h =
-      sym (untouched (cut_off f) (write_asks b (at - length f)) (set b (at - length f) (open_cell byte)) b
-      (ap (drop 4194304) (sym (set-append_right f b (length f) at (open_cell byte) refl h)) ∙ drop-set-lt 4194304 (f ++ b) at (open_cell byte) low))
+    pub front_cut : (byte : ℕ) → cut_off (written f at byte) b ≡ cut_off f b
+    unfolding written cut_off
+    front_cut byte =
+        untouched (λ x. cut_off x b) (write_asks f at) (set f at (open_cell byte)) f
+        (ap (drop 4194304) (sym (set-append_left f b at (open_cell byte) here)) ∙ drop-set-lt 4194304 (f ++ b) at (open_cell byte) low)
+
+  module _ (i : ℕ) (there : at ≡ length f + i) where
+    in_back : Same b (joined f b) i at
+    unfolding joined
+    in_back = record {
+      reach = ltb_same i (length b) at (length (joined f b)) (λ k. omega (arith, length-joined f b)) (λ k. omega (arith, length-joined f b));
+      cell = sym (get_or-take 4194304 (f ++ b) at spoiled_cell low ∙ get_or-append_right f b (length f) at spoiled_cell refl (omega arith) ∙ ap (cell_at b) (omega arith));
+    }
+
+    pub back_marked : marked (joined f b) at ≡ marked b i
+    back_marked = sym (same-marked b (joined f b) i at in_back)
+
+    pub back_read : read_out (joined f b) at ≡ read_out b i
+    back_read = sym (same_read b (joined f b) i at in_back)
+
+    pub back_wrote : wrote (joined f b) at ≡ wrote b i
+    back_wrote = sym (same-wrote b (joined f b) i at in_back)
+
+    append_set : (byte : ℕ) → f ++ set b i (open_cell byte) ≡ set (f ++ b) at (open_cell byte)
+    append_set byte = ap (λ k. f ++ set b k (open_cell byte)) (omega arith) ∙ sym (set-append_right f b (length f) at (open_cell byte) refl (omega arith))
+
+    pub back_written : (byte : ℕ) → written (joined f b) at byte ≡ joined f (written b i byte)
+    unfolding written joined
+    back_written byte =
+        let put : joined f (set b i (open_cell byte)) ≡ set (joined f b) at (open_cell byte) =
+        ap (take 4194304) (append_set byte) ∙ take-set-lt 4194304 (f ++ b) at (open_cell byte) low in
+        sym (through (joined f) (write_asks b i) (set b i (open_cell byte)) b
+        ∙ ap (λ x. held_after (write_asks b i) x (joined f b)) put
+        ∙ ap (λ o. held_after o (set (joined f b) at (open_cell byte)) (joined f b)) (same_asks b (joined f b) i at in_back))
+
+    pub back_cut : (byte : ℕ) → cut_off f (written b i byte) ≡ cut_off f b
+    unfolding written cut_off
+    back_cut byte =
+        untouched (cut_off f) (write_asks b i) (set b i (open_cell byte)) b
+        (ap (drop 4194304) (append_set byte) ∙ drop-set-lt 4194304 (f ++ b) at (open_cell byte) low)
+
+-- what the calls of a join are proved with
+pub ruleset joins = (length-joined, front_marked, front_read, front_wrote, front_written, front_cut, back_marked, back_read, back_wrote, back_written, back_cut, answers.marked-outside, answers.read_outside, answers.wrote-outside, answers.written-outside)

@@ -250,3 +250,9 @@ module _ (cells : List Cell) (at : ℕ) where
       (λ (here : at < length cells). absurd (let inside = answers.marked-inside cells at here in let z : ◌≡◌ {A = ℕ} 0 1 = cc in omega arith))
       (λ (out : length cells ≤ at). let outside = answers.marked-outside cells at out in let no' = answers.wrote-outside cells at out in cc)
       (cases_lt at (length cells))
+
+-- what the sentences of any memory are proved with
+pub ruleset sentences = (answers.marked-outside, answers.marked-inside, answers.read_outside, answers.wrote-outside, reads, reads-spoiled, writes, writes_kept, writes-spoiled, written_there, written_other, written-refused, written-length, written-marks)
+
+-- what a mark that was given, or refused, says of a write
+pub ruleset asked = (marked-given, marked_refused)

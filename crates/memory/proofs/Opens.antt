@@ -26,19 +26,21 @@ module _ (xs : List ℕ) (at : ℕ) (here : at < length (open_cells xs)) where
   is_open : (cell_at (open_cells xs) at).mark ≡ marks.Open
   is_open = ap (λ c. c.mark) cell_open
 
-  pub open_marked : Ok marks.Open ≡ marked (open_cells xs) at
-  open_marked = sym (answers.marked-inside (open_cells xs) at here ∙ ap Ok is_open)
+  pub open_marked : marked (open_cells xs) at ≡ Ok marks.Open
+  open_marked = answers.marked-inside (open_cells xs) at here ∙ ap Ok is_open
 
-  pub open_read : Ok (get_or xs at 0) ≡ read_out (open_cells xs) at
-  open_read =
-      sym (laws.reads (open_cells xs) at here (λ e. let o = is_open in let z : ◌≡◌ {A = ℕ} 0 1 = cc in omega arith) ∙ ap (λ c. Ok c.byte) cell_open)
+  pub open_read : read_out (open_cells xs) at ≡ Ok (get_or xs at 0)
+  open_read = laws.reads (open_cells xs) at here (λ e. let o = is_open in cc) ∙ ap (λ c. Ok c.byte) cell_open
 
-  pub open_wrote : Ok tt ≡ wrote (open_cells xs) at
-  open_wrote = sym (laws.writes (open_cells xs) at here is_open)
+  pub open_wrote : wrote (open_cells xs) at ≡ Ok tt
+  open_wrote = laws.writes (open_cells xs) at here is_open
 
   put : (byte : ℕ) → open_cells (set xs at byte) ≡ set (open_cells xs) at (open_cell byte)
   unfolding open_cells
   put byte = ap (map open_cell) (take-set-lt 4194304 xs at byte (omega (arith, within))) ∙ map-set open_cell (take 4194304 xs) at byte
 
-  pub open_written : (byte : ℕ) → open_cells (set xs at byte) ≡ written (open_cells xs) at byte
-  open_written byte = put byte ∙ sym (laws.written-accepted (open_cells xs) at byte (laws.writes (open_cells xs) at here is_open))
+  pub open_written : (byte : ℕ) → written (open_cells xs) at byte ≡ open_cells (set xs at byte)
+  open_written byte = laws.written-accepted (open_cells xs) at byte open_wrote ∙ sym (put byte)
+
+-- what the calls of work are proved with
+pub ruleset opens = (length-opens, open_marked, open_read, open_wrote, open_written, answers.marked-outside, answers.read_outside, answers.wrote-outside, answers.written-outside)

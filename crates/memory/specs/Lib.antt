@@ -1,4 +1,5 @@
 pub mod Refusals
+pub mod Marks
 pub mod Cells
 pub mod Works
 pub mod LawfulWorks

@@ -19,13 +19,11 @@ fn ask_open(mark: Mark) -> Result<(), MemoryRefusal>
 }
 
 // What a write would answer; nothing is written.
+#[tactic(auto, using(crate::proofs::Laws::asked))]
 pub fn ask_write<M: Memory>(memory: &mut M, at: usize) -> Result<(), MemoryRefusal>
     ensures stays { M.stays memory.old memory.new }
     ensures answers { result ≡ wrote (M.cells memory.old) at }
     ensures same { M.cells memory.new ≡ M.cells memory.old }
 {
-    match memory.mark(at) {
-        Ok(mark) => ask_open(mark),
-        Err(refusal) => Err(refusal),
-    }
+    ask_open(memory.mark(at)?)
 }

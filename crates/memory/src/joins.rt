@@ -1,12 +1,13 @@
 // One memory behind another, cut at the limit: their lenders hold what became of it.
-ghost use Rattle.std.specs.Prelude.{◌≡◌, refl};
+ghost use Rattle.std.specs.Prelude.{◌≡◌, ◌<◌, ◌≤◌, length, MatchResult, refl};
 ghost use Rattle.std.proofs.Common.{◌∙◌};
-ghost use Rattle.memory.specs.Joins.{joined, cut_off};
+ghost use Rattle.memory.specs.Joins.{joined, cut_off, LiesIn};
 ghost use Rattle.memory.specs.LawfulJoins.{joined_lawful, joined-marks};
 
 use super::marks::Mark;
 use super::meaning::{LIMIT, Memory};
 use super::refusals::MemoryRefusal;
+use questions::ask;
 
 // Either memory may be lent: `Join { front: &mut a, back: &mut b }`.
 #[derive(Drop)]
@@ -15,6 +16,29 @@ pub struct Join<F, B> {
     pub back: B,
 }
 
+// Where an address of a join lies.
+enum Part {
+    Front,
+    // At this address of the back's own.
+    Back(usize),
+}
+
+impl<F: Memory, B: Memory> Join<F, B> {
+    // Past the limit an address lies in neither part.
+    fn part(&self, at: usize) -> Result<Part, MemoryRefusal>
+        ensures { MatchResult result (λ part. (at < 4194304) × LiesIn (length (F.cells self.now.front)) at part) (λ refusal. (4194304 ≤ at) × (refusal ≡ MemoryRefusal.OutOfRange)) }
+    {
+        ask(at < LIMIT, MemoryRefusal::OutOfRange)?;
+        let front = self.front.size();
+        if at < front {
+            Ok(Part::Front)
+        } else {
+            Ok(Part::Back(at - front))
+        }
+    }
+}
+
+#[tactic(auto, using(crate::proofs::Joining::joins))]
 impl<F: Memory, B: Memory> Memory for Join<F, B> {
     ghost cells = { λ j. joined (F.Memory.cells j.front) (B.Memory.cells j.back) };
 
@@ -36,38 +60,23 @@ impl<F: Memory, B: Memory> Memory for Join<F, B> {
     }
 
     fn mark(&mut self, at: usize) -> Result<Mark, MemoryRefusal> {
-        if at >= LIMIT {
-            return Err(MemoryRefusal::OutOfRange);
-        }
-        let front = self.front.size();
-        if at < front {
-            self.front.mark(at)
-        } else {
-            self.back.mark(at - front)
+        match self.part(at)? {
+            Part::Front => self.front.mark(at),
+            Part::Back(within) => self.back.mark(within),
         }
     }
 
     fn read(&mut self, at: usize) -> Result<u8, MemoryRefusal> {
-        if at >= LIMIT {
-            return Err(MemoryRefusal::OutOfRange);
-        }
-        let front = self.front.size();
-        if at < front {
-            self.front.read(at)
-        } else {
-            self.back.read(at - front)
+        match self.part(at)? {
+            Part::Front => self.front.read(at),
+            Part::Back(within) => self.back.read(within),
         }
     }
 
     fn write(&mut self, at: usize, byte: u8) -> Result<(), MemoryRefusal> {
-        if at >= LIMIT {
-            return Err(MemoryRefusal::OutOfRange);
-        }
-        let front = self.front.size();
-        if at < front {
-            self.front.write(at, byte)
-        } else {
-            self.back.write(at - front, byte)
+        match self.part(at)? {
+            Part::Front => self.front.write(at, byte),
+            Part::Back(within) => self.back.write(within, byte),
         }
     }
 }

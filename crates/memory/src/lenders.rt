@@ -11,6 +11,7 @@ use super::refusals::{MemoryRefusal, WorkRefusal};
 use super::works::Work;
 
 // Writes one byte of the caller's, as a memory: whether they can be one, and then the memory's answer.
+#[tactic(auto, using(crate::proofs::Lending::bytes_written))]
 pub fn write_bytes(
     bytes: &mut [u8],
     at: usize,
@@ -25,6 +26,7 @@ pub fn write_bytes(
 }
 
 // Writes one byte of two memories, the second behind the first.
+#[tactic(auto, using(crate::proofs::Lending::front_after_lem, crate::proofs::Lending::back_after_lem))]
 pub fn write_joined<F: Memory, B: Memory>(
     front: &mut F,
     back: &mut B,

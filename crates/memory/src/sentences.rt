@@ -7,6 +7,7 @@ use super::meaning::Memory;
 use super::refusals::MemoryRefusal;
 
 // The number of bytes.
+#[tactic(auto, using(crate::proofs::Laws::sentences))]
 pub fn size_of<M: Memory>(memory: &M) -> usize
     ensures value { result ≡ length (M.cells memory.now) }
     ensures bound { result ≤ 4194304 }
@@ -15,6 +16,7 @@ pub fn size_of<M: Memory>(memory: &M) -> usize
 }
 
 // The mark at each address below the size; nothing changes.
+#[tactic(auto, using(crate::proofs::Laws::sentences))]
 pub fn mark_at<M: Memory>(memory: &mut M, at: usize) -> Result<Mark, MemoryRefusal>
     ensures stays { M.stays memory.old memory.new }
     ensures answers { result ≡ marked (M.cells memory.old) at }
@@ -26,6 +28,7 @@ pub fn mark_at<M: Memory>(memory: &mut M, at: usize) -> Result<Mark, MemoryRefus
 }
 
 // The byte at each address below the size that is not spoiled; nothing changes.
+#[tactic(auto, using(crate::proofs::Laws::sentences))]
 pub fn read_at<M: Memory>(memory: &mut M, at: usize) -> Result<u8, MemoryRefusal>
     ensures stays { M.stays memory.old memory.new }
     ensures answers { result ≡ read_out (M.cells memory.old) at }
@@ -38,6 +41,7 @@ pub fn read_at<M: Memory>(memory: &mut M, at: usize) -> Result<u8, MemoryRefusal
 }
 
 // Puts a byte where it is open. It is there then, and no other byte is another; a refusal changes nothing, and sizes and marks never change.
+#[tactic(auto, using(crate::proofs::Laws::sentences))]
 pub fn write_at<M: Memory>(memory: &mut M, at: usize, byte: u8) -> Result<(), MemoryRefusal>
     ensures stays { M.stays memory.old memory.new }
     ensures answers { result ≡ wrote (M.cells memory.old) at }

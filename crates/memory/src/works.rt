@@ -1,5 +1,5 @@
 // The caller's bytes as a memory, all open.
-ghost use Rattle.std.specs.Prelude.{◌≡◌, Some, None, MatchResult};
+ghost use Rattle.std.specs.Prelude.{◌≡◌, ◌<◌, ◌≤◌, length, Some, None, MatchResult};
 ghost use Rattle.questions.specs.Questions.{answered};
 ghost use Rattle.memory.specs.Works.{open_cells, work_asks, SameBytes, Lent};
 ghost use Rattle.memory.specs.LawfulWorks.{opens_lawful, opens_steady};
@@ -7,6 +7,7 @@ ghost use Rattle.memory.specs.LawfulWorks.{opens_lawful, opens_steady};
 use super::marks::Mark;
 use super::meaning::{LIMIT, Memory};
 use super::refusals::{MemoryRefusal, WorkRefusal};
+use questions::ask;
 
 #[derive(Drop)]
 pub struct Work<'a> {
@@ -18,10 +19,7 @@ impl<'a> Work<'a> {
     pub fn ask(bytes: &[u8]) -> Result<(), WorkRefusal>
         ensures { result ≡ answered (work_asks bytes.now) tt }
     {
-        if bytes.len() > LIMIT {
-            return Err(WorkRefusal::TooLong);
-        }
-        Ok(())
+        ask(bytes.len() <= LIMIT, WorkRefusal::TooLong)
     }
 
     // The memory of the bytes that `ask` accepts, or of as many as a memory may have. They go back to the caller with it.
@@ -38,8 +36,16 @@ impl<'a> Work<'a> {
         Work::ask(bytes)?;
         Ok(Work::over(bytes))
     }
+
+    // Whether an address is below the size.
+    fn inside(&self, at: usize) -> Result<(), MemoryRefusal>
+        ensures { MatchResult result (λ _. at < length (open_cells self.now.bytes.now)) (λ refusal. (length (open_cells self.now.bytes.now) ≤ at) × (refusal ≡ MemoryRefusal.OutOfRange)) }
+    {
+        ask(at < self.size(), MemoryRefusal::OutOfRange)
+    }
 }
 
+#[tactic(auto, using(crate::proofs::Opens::opens))]
 impl<'a> Memory for Work<'a> {
     ghost cells = { λ w. open_cells w.bytes.now };
 
@@ -58,23 +64,17 @@ impl<'a> Memory for Work<'a> {
     }
 
     fn mark(&mut self, at: usize) -> Result<Mark, MemoryRefusal> {
-        if at >= (*self).size() {
-            return Err(MemoryRefusal::OutOfRange);
-        }
+        self.inside(at)?;
         Ok(Mark::Open)
     }
 
     fn read(&mut self, at: usize) -> Result<u8, MemoryRefusal> {
-        if at >= (*self).size() {
-            return Err(MemoryRefusal::OutOfRange);
-        }
+        self.inside(at)?;
         Ok(self.bytes[at])
     }
 
     fn write(&mut self, at: usize, byte: u8) -> Result<(), MemoryRefusal> {
-        if at >= (*self).size() {
-            return Err(MemoryRefusal::OutOfRange);
-        }
+        self.inside(at)?;
         self.bytes[at] = byte;
         Ok(())
     }
