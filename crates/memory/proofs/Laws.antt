@@ -1,10 +1,11 @@
 -- The laws of memory that code above it cites: they speak of answers and of what is held, and unfold nothing.
-use Rattle.std.proofs.Common.{◌≡◌, ℕ, ◌<◌, ◌≤◌, true, ◌⊎◌, List, length, get_or, set, Some, None, Ok, Err, Option, Result, sym, refl, ap, ◌∙◌, subst, inl, inr, ⊎_elim, arith}
+use Rattle.std.proofs.Common.{◌≡◌, ℕ, ◌<◌, ◌≤◌, true, ◌⊎◌, List, length, get_or, set, Some, None, Ok, Err, Option, Result, sym, refl, ap, ◌∙◌, subst, inl, inr, ⊎_elim}
 use lib.ListN.{length-map, get_or-map}
 use lib.Seq.{map-set_same}
 use Rattle.std.proofs.lemmas.List.{get_or-set_same, get_or-set_other, set-set, set_comm}
 use Rattle.std.proofs.lemmas.Bool.{cases_eq, cases_lt}
 use Rattle.questions.specs.Questions.{answered, held_after}
+use Rattle.questions.proofs.Answered.{accepted, refused as refused_by}
 use Rattle.memory.specs.declared.marks.Mark.{Mark}
 use Rattle.memory.specs.declared.marks.Mark.TheVariants as marks
 use Rattle.memory.specs.declared.refusals.MemoryRefusal.{MemoryRefusal}
@@ -20,8 +21,8 @@ not_spoiled marks.Kept ne = refl
 not_spoiled marks.Spoiled ne = absurd (ne refl)
 
 is_spoiled : (m : Mark) → (m ≡ marks.Spoiled) ⊎ (m ≡ marks.Spoiled → ⊥)
-is_spoiled marks.Open = inr (λ e. let z : ◌≡◌ {A = ℕ} 0 1 = cc in omega arith)
-is_spoiled marks.Kept = inr (λ e. let z : ◌≡◌ {A = ℕ} 0 1 = cc in omega arith)
+is_spoiled marks.Open = inr (λ e. cc)
+is_spoiled marks.Kept = inr (λ e. cc)
 is_spoiled marks.Spoiled = inl refl
 
 module _ (cells : List Cell) (at : ℕ) (here : at < length cells) where
@@ -66,22 +67,14 @@ module _ (xs ys : List Cell) (e : marks_of xs ≡ marks_of ys) where
 abbrev done : Option MemoryRefusal → Result (Unit {0}) MemoryRefusal
 done o = answered o tt
 
-accepts : (o : Option MemoryRefusal) → done o ≡ Ok tt → o ≡ None
-accepts None e = refl
-accepts (Some r) e = absurd (let z : ◌≡◌ {A = ℕ} 0 1 = cc in omega arith)
-
-refuses : (o : Option MemoryRefusal) (r : MemoryRefusal) → done o ≡ Err r → o ≡ Some r
-refuses None r e = absurd (let z : ◌≡◌ {A = ℕ} 0 1 = cc in omega arith)
-refuses (Some q) r e = cc
-
 module _ (cells : List Cell) (at byte : ℕ) where
   pub written-accepted : wrote cells at ≡ Ok tt → written cells at byte ≡ set cells at (open_cell byte)
   unfolding wrote written
-  written-accepted ok = ap (λ o. held_after o (set cells at (open_cell byte)) cells) (accepts (write_asks cells at) ok)
+  written-accepted ok = ap (λ o. held_after o (set cells at (open_cell byte)) cells) (accepted (write_asks cells at) _ _ ok)
 
   pub written-refused : (r : MemoryRefusal) → wrote cells at ≡ Err r → written cells at byte ≡ cells
   unfolding wrote written
-  written-refused r refused = ap (λ o. held_after o (set cells at (open_cell byte)) cells) (refuses (write_asks cells at) r refused)
+  written-refused r refused = ap (λ o. held_after o (set cells at (open_cell byte)) cells) (refused_by (write_asks cells at) _ r refused)
 
   -- what holds of the cells when the byte is put and when they stay holds after a write
   pub written_either : (P : List Cell → Type 0) → (wrote cells at ≡ Ok tt → P (set cells at (open_cell byte))) → ((r : MemoryRefusal) → wrote cells at ≡ Err r → P cells) → P (written cells at byte)
@@ -93,12 +86,12 @@ module _ (cells : List Cell) (at byte : ℕ) where
   -- an accepted write is of an open byte
   pub accepted-inside : wrote cells at ≡ Ok tt → at < length cells
   accepted-inside ok =
-      ⊎_elim (λ h. h) (λ (out : length cells ≤ at). absurd (let r = answers.wrote-outside cells at out in let z : ◌≡◌ {A = ℕ} 0 1 = cc in omega arith)) (cases_lt at (length cells))
+      ⊎_elim (λ h. h) (λ (out : length cells ≤ at). absurd (let r = answers.wrote-outside cells at out in cc)) (cases_lt at (length cells))
 
   marked_open : (m : Mark) → (cell_at cells at).mark ≡ m → at < length cells → wrote cells at ≡ Ok tt → m ≡ marks.Open
   marked_open marks.Open e here ok = refl
-  marked_open marks.Kept e here ok = absurd (let r = writes_kept cells at here e in let z : ◌≡◌ {A = ℕ} 0 1 = cc in omega arith)
-  marked_open marks.Spoiled e here ok = absurd (let r = writes-spoiled cells at here e in let z : ◌≡◌ {A = ℕ} 0 1 = cc in omega arith)
+  marked_open marks.Kept e here ok = absurd (let r = writes_kept cells at here e in cc)
+  marked_open marks.Spoiled e here ok = absurd (let r = writes-spoiled cells at here e in cc)
 
   pub accepted_open : wrote cells at ≡ Ok tt → (cell_at cells at).mark ≡ marks.Open
   accepted_open ok = marked_open (cell_at cells at).mark refl (accepted-inside ok) ok
@@ -181,7 +174,7 @@ lawful_written cells at byte lawful = record {
       ⊎_elim
       (λ (e : i ≡ at).
       written_either cells at byte (λ after. (cell_at after i).byte ≡ 0)
-      (λ ok. let o = accepted_open cells at byte ok in absurd (let z : ◌≡◌ {A = ℕ} 0 1 = cc in omega arith))
+      (λ ok. let o = accepted_open cells at byte ok in cc)
       (λ r refused. lawful.zeroed i (sym before ∙ spoiled)))
       (λ (apart : i ≡ at → ⊥). ap (λ c. c.byte) (written_other cells at byte i apart) ∙ lawful.zeroed i (sym before ∙ spoiled))
       (cases_eq i at);
@@ -241,13 +234,13 @@ module _ (cells : List Cell) (at : ℕ) where
   marked-given m given =
       ⊎_elim
       (λ (here : at < length cells). let inside = answers.marked-inside cells at here in let e : (cell_at cells at).mark ≡ m = cc in answers.wrote-inside cells at here ∙ ap (λ k. done (open_asks k)) e)
-      (λ (out : length cells ≤ at). absurd (let outside = answers.marked-outside cells at out in let z : ◌≡◌ {A = ℕ} 0 1 = cc in omega arith))
+      (λ (out : length cells ≤ at). absurd (let outside = answers.marked-outside cells at out in cc))
       (cases_lt at (length cells))
 
   pub marked_refused : (r : MemoryRefusal) → marked cells at ≡ Err r → wrote cells at ≡ Err r
   marked_refused r refused =
       ⊎_elim
-      (λ (here : at < length cells). absurd (let inside = answers.marked-inside cells at here in let z : ◌≡◌ {A = ℕ} 0 1 = cc in omega arith))
+      (λ (here : at < length cells). absurd (let inside = answers.marked-inside cells at here in cc))
       (λ (out : length cells ≤ at). let outside = answers.marked-outside cells at out in let no' = answers.wrote-outside cells at out in cc)
       (cases_lt at (length cells))
 

@@ -1,7 +1,7 @@
 -- Why a join keeps what every memory keeps. (A proof that the trait's members hold, so it stands here.)
 use Rattle.std.specs.Prelude.{◌≡◌, ℕ, zero, suc, List, [], ◌∷◌, ◌++◌, take, refl}
-use Rattle.std.proofs.lemmas.List.{map-append}
-use Rattle.std.proofs.Common.{ap, ◌∙◌, arith, length-take}
+use Rattle.std.proofs.lemmas.List.{map-append, take-map}
+use Rattle.std.proofs.Common.{sym, ap, ◌∙◌, arith, length-take}
 use Rattle.memory.specs.declared.marks.Mark.TheVariants as marks
 use Rattle.memory.specs.Cells.{Cell, Lawful, cell_at, marks_of}
 use Rattle.memory.specs.Joins.{joined}
@@ -27,14 +27,9 @@ joined_lawful front back f b = record {
   zeroed = zeroed-take 4194304 (front ++ back) (zeroed-append front back f.zeroed b.zeroed);
 }
 
-marks-take : (n : ℕ) (xs : List Cell) → marks_of (take n xs) ≡ take n (marks_of xs)
-marks-take zero xs = refl
-marks-take (suc n) [] = refl
-marks-take (suc n) (x ∷ xs) = ap (λ l. x.mark ∷ l) (marks-take n xs)
-
 marks-joined : (front back : List Cell) → marks_of (joined front back) ≡ take 4194304 (marks_of front ++ marks_of back)
 unfolding joined
-marks-joined front back = marks-take 4194304 (front ++ back) ∙ ap (take 4194304) (map-append (λ c. c.mark) front back)
+marks-joined front back = sym (take-map (λ c. c.mark) 4194304 (front ++ back)) ∙ ap (take 4194304) (map-append (λ c. c.mark) front back)
 
 pub joined-marks : (f b g c : List Cell) → marks_of f ≡ marks_of g → marks_of b ≡ marks_of c → marks_of (joined f b) ≡ marks_of (joined g c)
 joined-marks f b g c p q =

@@ -1,5 +1,6 @@
 -- The number of each refusal, and the question that got a no.
 use Rattle.std.specs.Prelude.{ℕ, List, codes}
+use Rattle.questions.specs.Refusals.{refusal_text}
 use Rattle.memory.specs.declared.refusals.MemoryRefusal.{MemoryRefusal}
 use Rattle.memory.specs.declared.refusals.MemoryRefusal.TheVariants.{OutOfRange, Spoiled, NotOpen}
 use Rattle.memory.specs.declared.refusals.WorkRefusal.{WorkRefusal}
@@ -24,3 +25,11 @@ memory_question NotOpen = codes "Is the byte open?"
 -- what is asked of bytes, as text
 abbrev pub work_question : WorkRefusal → List ℕ
 work_question TooLong = codes "Are there at most 4194304 bytes?"
+
+-- a refusal of a memory as it is shown
+abbrev pub memory_text : MemoryRefusal → List ℕ
+memory_text refusal = refusal_text (memory_number refusal) (memory_question refusal)
+
+-- a refusal of bytes as it is shown
+abbrev pub work_text : WorkRefusal → List ℕ
+work_text refusal = refusal_text (work_number refusal) (work_question refusal)

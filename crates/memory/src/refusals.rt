@@ -1,7 +1,8 @@
 // The questions that a memory asks, by the numbers under which it refuses.
-ghost use Rattle.std.specs.Prelude.{◌≡◌};
-ghost use Rattle.memory.specs.Refusals.{memory_number, memory_question, work_number, work_question};
+ghost use Rattle.std.specs.Prelude.{Some};
+ghost use Rattle.memory.specs.Refusals.{memory_number, memory_question, memory_text, work_number, work_question, work_text};
 
+use questions::refusals::Refusal;
 use std::fmt;
 
 // Why a mark is not given, a byte not read or not written.
@@ -12,16 +13,16 @@ pub enum MemoryRefusal {
     NotOpen = 33,
 }
 
-impl MemoryRefusal {
-    pub fn number(self) -> u16
-        ensures { result ≡ memory_number self }
-    {
+impl Refusal for MemoryRefusal {
+    ghost number = { memory_number };
+
+    ghost question = { memory_question };
+
+    fn number(self) -> u16 {
         self as u16
     }
 
-    fn question(self) -> &'static str
-        ensures { result.now ≡ memory_question self }
-    {
+    fn question(self) -> &'static str {
         match self {
             MemoryRefusal::OutOfRange => "Is the address below the size?",
             MemoryRefusal::Spoiled => "Is the byte not spoiled?",
@@ -31,8 +32,10 @@ impl MemoryRefusal {
 }
 
 impl fmt::Display for MemoryRefusal {
+    ghost output = { λ refusal. Some (memory_text refusal) };
+
     fn fmt<W: fmt::Write>(&self, f: &mut fmt::Formatter<W>) -> fmt::Result {
-        write!(f, "{}: {}", self.number(), self.question())
+        self.show(f)
     }
 }
 
@@ -42,16 +45,16 @@ pub enum WorkRefusal {
     TooLong = 30,
 }
 
-impl WorkRefusal {
-    pub fn number(self) -> u16
-        ensures { result ≡ work_number self }
-    {
+impl Refusal for WorkRefusal {
+    ghost number = { work_number };
+
+    ghost question = { work_question };
+
+    fn number(self) -> u16 {
         self as u16
     }
 
-    fn question(self) -> &'static str
-        ensures { result.now ≡ work_question self }
-    {
+    fn question(self) -> &'static str {
         match self {
             WorkRefusal::TooLong => "Are there at most 4194304 bytes?",
         }
@@ -59,7 +62,9 @@ impl WorkRefusal {
 }
 
 impl fmt::Display for WorkRefusal {
+    ghost output = { λ refusal. Some (work_text refusal) };
+
     fn fmt<W: fmt::Write>(&self, f: &mut fmt::Formatter<W>) -> fmt::Result {
-        write!(f, "{}: {}", self.number(), self.question())
+        self.show(f)
     }
 }
