@@ -22,6 +22,9 @@ module _ (cells : List Cell) (at : ℕ) (outside : length cells ≤ at) where
   unfolding written
   written-outside byte = simp (le-ltb at (length cells) outside)
 
+-- the same four as one list
+pub ruleset past = (marked-outside, read_outside, wrote-outside, written-outside)
+
 module _ (cells : List Cell) (at : ℕ) (here : at < length cells) where
   pub marked-inside : marked cells at ≡ Ok (cell_at cells at).mark
   unfolding marked

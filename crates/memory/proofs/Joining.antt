@@ -117,4 +117,4 @@ module _ (f b : List Cell) (at : ℕ) (low : at < 4194304) where
         (ap (drop 4194304) (append_set byte) ∙ drop-set-lt 4194304 (f ++ b) at (open_cell byte) low)
 
 -- what the calls of a join are proved with
-pub ruleset joins = (length-joined, front_marked, front_read, front_wrote, front_written, front_cut, back_marked, back_read, back_wrote, back_written, back_cut, answers.marked-outside, answers.read_outside, answers.wrote-outside, answers.written-outside)
+pub ruleset joins = (length-joined, front_marked, front_read, front_wrote, front_written, front_cut, back_marked, back_read, back_wrote, back_written, back_cut, answers.past)

@@ -41,6 +41,12 @@ module _ (cells : List Cell) (at : ℕ) (here : at < length cells) where
   pub writes-spoiled : (cell_at cells at).mark ≡ marks.Spoiled → wrote cells at ≡ Err refusals.Spoiled
   writes-spoiled e = answers.wrote-spoiled cells at here (ap is_sound e)
 
+  pub spoiled_written : (byte : ℕ) → (cell_at cells at).mark ≡ marks.Spoiled → written cells at byte ≡ cells
+  spoiled_written byte e = answers.written-spoiled cells at here byte (ap is_sound e)
+
+  pub kept_written : (byte : ℕ) → (cell_at cells at).mark ≡ marks.Kept → written cells at byte ≡ cells
+  kept_written byte e = answers.written-kept cells at here byte (ap is_sound e) (ap is_open e)
+
 -- The questions are asked of the marks alone.
 
 module _ (xs ys : List Cell) (e : marks_of xs ≡ marks_of ys) where
@@ -244,8 +250,11 @@ module _ (cells : List Cell) (at : ℕ) where
       (λ (out : length cells ≤ at). let outside = answers.marked-outside cells at out in let no' = answers.wrote-outside cells at out in cc)
       (cases_lt at (length cells))
 
+-- what each call answers, and what a refused write leaves: what a memory's calls are proved with
+pub ruleset answering = (answers.past, answers.marked-inside, reads, reads-spoiled, writes, writes_kept, writes-spoiled, spoiled_written, kept_written)
+
 -- what the sentences of any memory are proved with
-pub ruleset sentences = (answers.marked-outside, answers.marked-inside, answers.read_outside, answers.wrote-outside, reads, reads-spoiled, writes, writes_kept, writes-spoiled, written_there, written_other, written-refused, written-length, written-marks)
+pub ruleset sentences = (answering, written_there, written_other, written-refused, written-length, written-marks)
 
 -- what a mark that was given, or refused, says of a write
 pub ruleset asked = (marked-given, marked_refused)

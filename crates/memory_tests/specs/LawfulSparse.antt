@@ -1,19 +1,15 @@
 -- Why a sparse memory keeps what every memory keeps. (A proof that the trait's members hold, so it stands here.)
-use Rattle.std.specs.Prelude.{◌≡◌, ℕ, zero, suc, ◌≤◌, List, [], ◌∷◌, map, length, refl}
-use Rattle.std.proofs.Common.{ap, arith, length-append}
+use Rattle.std.specs.Prelude.{◌≡◌, ℕ, zero, suc, ◌≤◌, List, ◌∷◌, length}
+use Rattle.std.proofs.Common.{refl, ap, arith, length-append}
 use Rattle.std.proofs.lemmas.List.{length-replicate, length-map}
 use Rattle.memory.specs.declared.marks.Mark.TheVariants as marks
-use Rattle.memory.specs.Cells.{Lawful, cell_at, marks_of, open_cell}
+use Rattle.memory.specs.Cells.{Lawful, cell_at, marks_of}
+use Rattle.memory.specs.LawfulWorks.{all_sound, all_open}
 use Rattle.memory_tests.specs.Sparse.{sparse_cells}
 
-open_zeroed : (bytes : List ℕ) (at : ℕ) → (cell_at (map open_cell bytes) at).mark ≡ marks.Spoiled → (cell_at (map open_cell bytes) at).byte ≡ 0
-open_zeroed [] at e = refl
-open_zeroed (b ∷ bytes) zero e = absurd (let z : ◌≡◌ {A = ℕ} 0 1 = cc in omega arith)
-open_zeroed (b ∷ bytes) (suc at) e = open_zeroed bytes at e
-
 zeroed : (hole stamp : ℕ) (bytes : List ℕ) (at : ℕ) → (cell_at (sparse_cells hole stamp bytes) at).mark ≡ marks.Spoiled → (cell_at (sparse_cells hole stamp bytes) at).byte ≡ 0
-zeroed zero stamp bytes zero e = absurd (let z : ◌≡◌ {A = ℕ} 0 1 = cc in omega arith)
-zeroed zero stamp bytes (suc at) e = open_zeroed bytes at e
+zeroed zero stamp bytes zero e = cc
+zeroed zero stamp bytes (suc at) e = all_sound bytes at e
 zeroed (suc hole) stamp bytes zero e = refl
 zeroed (suc hole) stamp bytes (suc at) e = zeroed hole stamp bytes at e
 
@@ -22,12 +18,6 @@ sparse_lawful hole stamp bytes few full = record {
   bounded = simp (length-append, length-replicate, length-map) (omega arith);
   zeroed = zeroed hole stamp bytes;
 }
-
-all_open : (xs ys : List ℕ) → length xs ≡ length ys → marks_of (map open_cell xs) ≡ marks_of (map open_cell ys)
-all_open [] [] e = refl
-all_open [] (y ∷ ys) e = absurd (omega arith)
-all_open (x ∷ xs) [] e = absurd (omega arith)
-all_open (x ∷ xs) (y ∷ ys) e = ap (λ l. marks.Open ∷ l) (all_open xs ys (omega arith))
 
 pub sparse_marks : (hole s t : ℕ) (xs ys : List ℕ) → length xs ≡ length ys → marks_of (sparse_cells hole s xs) ≡ marks_of (sparse_cells hole t ys)
 sparse_marks zero s t xs ys e = ap (λ l. marks.Kept ∷ l) (all_open xs ys e)

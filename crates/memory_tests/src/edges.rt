@@ -10,6 +10,7 @@ use memory::meaning::Memory;
 use memory::refusals::{MemoryRefusal, WorkRefusal};
 use memory::sentences::{mark_at, read_at, size_of, write_at};
 use memory::works::Work;
+use questions::refusals::Refusal;
 use std::test::Fail;
 
 const OUT: MemoryRefusal = MemoryRefusal::OutOfRange;

@@ -16,6 +16,7 @@ pub fn put_twice<M: Memory>(memory: &mut M, first: usize, second: usize, byte: u
 }
 
 // The same, of two memories, the second behind the first.
+#[tactic(auto, using(memory::proofs::Lending::front_after_lem, memory::proofs::Lending::back_after_lem))]
 pub fn put_twice_joined<F: Memory, B: Memory>(
     front: &mut F,
     back: &mut B,

@@ -1,13 +1,14 @@
 // A sparse memory: a hole of spoiled bytes that takes no room, one kept byte, and sixteen open ones.
-ghost use Rattle.std.specs.Prelude.{◌≡◌, ◌<◌, ◌≤◌, length, replicate, Some, None, refl};
+ghost use Rattle.std.specs.Prelude.{◌≡◌, ◌+◌, ◌<◌, ◌≤◌, length, replicate, Some, None, MatchResult, refl};
 ghost use Rattle.std.proofs.Common.{sym, ap, ◌∙◌};
 ghost use Rattle.memory.specs.Cells.{marks_of};
-ghost use Rattle.memory_tests.specs.Sparse.{sparse_cells};
+ghost use Rattle.memory_tests.specs.Sparse.{sparse_cells, StandsAt};
 ghost use Rattle.memory_tests.specs.LawfulSparse.{sparse_lawful, sparse_marks};
 
 use memory::marks::Mark;
 use memory::meaning::Memory;
 use memory::refusals::MemoryRefusal;
+use std::cmp::Ordering;
 
 #[derive(Drop)]
 pub struct Sparse {
@@ -16,6 +17,14 @@ pub struct Sparse {
     bytes: [u8; 16],
     ghost few: { hole ≤ 4194287 },
     ghost full: { length bytes ≡ 16 },
+}
+
+// What stands at an address.
+enum Place {
+    Hole,
+    Stamp,
+    // This one of the open bytes.
+    Byte(usize),
 }
 
 impl Sparse {
@@ -32,8 +41,20 @@ impl Sparse {
             bytes: [0; 16],
         })
     }
+
+    fn place(&self, at: usize) -> Result<Place, MemoryRefusal>
+        ensures { MatchResult result (StandsAt self.now.hole at) (λ refusal. (self.now.hole + 17 ≤ at) × (refusal ≡ MemoryRefusal.OutOfRange)) }
+    {
+        match at.cmp(&self.hole) {
+            Ordering::Less => Ok(Place::Hole),
+            Ordering::Equal => Ok(Place::Stamp),
+            Ordering::Greater if at < self.size() => Ok(Place::Byte(at - self.hole - 1)),
+            Ordering::Greater => Err(MemoryRefusal::OutOfRange),
+        }
+    }
 }
 
+#[tactic(auto, using(crate::proofs::Places::places))]
 impl Memory for Sparse {
     ghost cells = { λ m. sparse_cells m.hole m.stamp m.bytes };
 
@@ -48,43 +69,33 @@ impl Memory for Sparse {
     } };
 
     fn size(&self) -> usize {
-        self.hole + 17
+        self.hole + 1 + self.bytes.len()
     }
 
     fn mark(&mut self, at: usize) -> Result<Mark, MemoryRefusal> {
-        if at < self.hole {
-            Ok(Mark::Spoiled)
-        } else if at == self.hole {
-            Ok(Mark::Kept)
-        } else if at < self.hole + 17 {
-            Ok(Mark::Open)
-        } else {
-            Err(MemoryRefusal::OutOfRange)
-        }
+        Ok(match self.place(at)? {
+            Place::Hole => Mark::Spoiled,
+            Place::Stamp => Mark::Kept,
+            Place::Byte(_) => Mark::Open,
+        })
     }
 
     fn read(&mut self, at: usize) -> Result<u8, MemoryRefusal> {
-        if at < self.hole {
-            Err(MemoryRefusal::Spoiled)
-        } else if at == self.hole {
-            Ok(self.stamp)
-        } else if at < self.hole + 17 {
-            Ok(self.bytes[at - self.hole - 1])
-        } else {
-            Err(MemoryRefusal::OutOfRange)
+        match self.place(at)? {
+            Place::Hole => Err(MemoryRefusal::Spoiled),
+            Place::Stamp => Ok(self.stamp),
+            Place::Byte(i) => Ok(self.bytes[i]),
         }
     }
 
     fn write(&mut self, at: usize, byte: u8) -> Result<(), MemoryRefusal> {
-        if at < self.hole {
-            Err(MemoryRefusal::Spoiled)
-        } else if at == self.hole {
-            Err(MemoryRefusal::NotOpen)
-        } else if at < self.hole + 17 {
-            self.bytes[at - self.hole - 1] = byte;
-            Ok(())
-        } else {
-            Err(MemoryRefusal::OutOfRange)
+        match self.place(at)? {
+            Place::Hole => Err(MemoryRefusal::Spoiled),
+            Place::Stamp => Err(MemoryRefusal::NotOpen),
+            Place::Byte(i) => {
+                self.bytes[i] = byte;
+                Ok(())
+            }
         }
     }
 }
