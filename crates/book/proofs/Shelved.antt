@@ -1,96 +1,60 @@
--- What a book answers, by whether the block of an address is sound.
-use Rattle.std.proofs.Common.{◌≡◌, ℕ, ◌+◌, ◌*◌, ◌/◌, ◌%◌, ◌<◌, ◌≤◌, Bool, true, false, cond, List, length, get_or, drop, is_ok, Some, None, Ok, Err, Option, sym, refl, ap, ◌∙◌, arith}
+-- What a book has at an address, by the payload of its block.
+use Rattle.std.proofs.Common.{◌≡◌, ℕ, ◌*◌, ◌/◌, ◌%◌, ◌<◌, true, List, length, get_or, is_some, Some, None, Ok, Err, Option, Result, IfSome, option_map, length-take, length-drop, refl, ap, ◌∙◌, arith}
+use Rattle.std.specs.Borrow.{Bor}
+use Rattle.std.specs.Result.{result_ok}
 use Rattle.std.proofs.lemmas.List.FromFn.{length-map-range_with_len, get_or-map-range_with_len}
-use Rattle.std.proofs.lemmas.List.{get_or-take, get_or-drop}
-use Rattle.std.proofs.lemmas.Bool.{ltb-true, ltb-false}
 use Rattle.questions.specs.Questions.{answered}
 use Rattle.blocks.specs.Asking.{opening}
 use Rattle.blocks.specs.Layout.{payload_of}
 use Rattle.blocks.specs.declared.refusals.BlockRefusal.{BlockRefusal}
 use Rattle.images.specs.Images.{blocks_in}
 use Rattle.memory.specs.declared.marks.Mark.TheVariants as marks
-use Rattle.memory.specs.declared.refusals.MemoryRefusal.{MemoryRefusal}
-use Rattle.memory.specs.declared.refusals.MemoryRefusal.TheVariants as refusals
-use Rattle.memory.specs.Cells.{cell_at, kept_cell, spoiled_cell, marked, read_out, wrote, written}
-use Rattle.memory.proofs.Answers as answers
+use Rattle.memory.specs.Cells.{cell_at, kept_cell, spoiled_cell}
 use Rattle.memory.proofs.Laws as laws
-use Rattle.book.specs.Books.{block_at, book_cell, book_cells, book_size, cell_in, sound_of}
+use Rattle.book.specs.Books.{block_at, book_cell, book_cells, book_size, cell_in, payload_at, table_at}
 
-pub length_book : (image : List ℕ) → length (book_cells image) ≡ book_size image
+pub length_book : (image : List ℕ) → length (book_cells image) ≡ 496 * blocks_in image
 unfolding book_cells
 length_book image = length-map-range_with_len (book_cell image) 0 (book_size image)
 
--- where a byte of a payload stands in the image
-payload_byte : (image : List ℕ) (place i : ℕ) → i < 496 → get_or (payload_of (block_at image place)) i 0 ≡ get_or image (512 * place + 12 + i) 0
-payload_byte image place i h =
-    let block = block_at image place in
-    get_or-take 496 (drop 12 block) i 0 h ∙ get_or-drop 12 block i 0
-    ∙ get_or-take 512 (drop (512 * place) image) (12 + i) 0 (omega arith) ∙ get_or-drop (512 * place) image (12 + i) 0
-    ∙ ap (λ n. get_or image n 0) (omega arith)
+-- a payload that a block of an image gives is 496 bytes long
+given_long : (image : List ℕ) (place : ℕ) (asked : Option BlockRefusal) (payload : Option (Bor (List ℕ))) → place < blocks_in image
+    → option_map (λ bytes. bytes.now) payload ≡ result_ok (answered asked (payload_of (block_at image place))) → IfSome payload (λ bytes. length bytes.now ≡ 496)
+given_long image place asked None inside gives = tt
+given_long image place None (Some bytes) inside gives =
+    let is : bytes.now ≡ payload_of (block_at image place) = cc in
+    ap length is ∙ simp (length-take, length-drop) (omega arith)
+given_long image place (Some r) (Some bytes) inside gives = absurd (cc)
 
-sound-cell : (asked : Option BlockRefusal) (payload : List ℕ) (i : ℕ) → is_ok (answered asked payload) ≡ true → cell_in (answered asked payload) i ≡ kept_cell (get_or payload i 0)
-sound-cell None payload i e = refl
-sound-cell (Some r) payload i e = absurd (let z : ◌≡◌ {A = ℕ} 0 1 = cc in omega arith)
+pub payload_long : (image : List ℕ) (place : ℕ) (payload : Option (Bor (List ℕ))) → place < blocks_in image
+    → option_map (λ bytes. bytes.now) payload ≡ payload_at image place → IfSome payload (λ bytes. length bytes.now ≡ 496)
+payload_long image place = given_long image place (opening 2 place (block_at image place))
 
-unsound_cell : (asked : Option BlockRefusal) (payload : List ℕ) (i : ℕ) → is_ok (answered asked payload) ≡ false → cell_in (answered asked payload) i ≡ spoiled_cell
-unsound_cell None payload i e = absurd (let z : ◌≡◌ {A = ℕ} 0 1 = cc in omega arith)
-unsound_cell (Some r) payload i e = refl
+cell_kept : (gives : Result (List ℕ) BlockRefusal) (payload : List ℕ) (i : ℕ) → result_ok gives ≡ Some payload → cell_in gives i ≡ kept_cell (get_or payload i 0)
+cell_kept (Ok bytes) payload i e = let is : bytes ≡ payload = cc in ap (λ l. kept_cell (get_or l i 0)) is
+cell_kept (Err r) payload i e = cc
 
--- a test that gave something passed, and gave that
-told : {X : Type 0} (b : Bool) (x y : X) → cond b (Some x) None ≡ Some y → (b ≡ true) × (x ≡ y)
-told true x y e = (refl, cc)
-told false x y e = absurd (let z : ◌≡◌ {A = ℕ} 0 1 = cc in omega arith)
+mark_kept : (gives : Result (List ℕ) BlockRefusal) (i : ℕ) → is_some (result_ok gives) ≡ true → (cell_in gives i).mark ≡ marks.Kept
+mark_kept (Ok bytes) i e = refl
+mark_kept (Err r) i e = cc
 
-untold : {X : Type 0} (b : Bool) (x : X) → cond b (Some x) None ≡ None → b ≡ false
-untold true x e = absurd (let z : ◌≡◌ {A = ℕ} 0 1 = cc in omega arith)
-untold false x e = refl
+cell_spoiled : (gives : Result (List ℕ) BlockRefusal) (i : ℕ) → result_ok gives ≡ None → cell_in gives i ≡ spoiled_cell
+cell_spoiled (Ok bytes) i e = cc
+cell_spoiled (Err r) i e = refl
 
-module _ (image : List ℕ) (at : ℕ) where
-  module _ (sound : Bool) (is : sound_of image at ≡ Some sound) where
-    block_inside : at / 496 < blocks_in image
-    block_inside = ltb-true (at / 496) (blocks_in image) (told _ _ _ is).0
+module _ (image : List ℕ) (at : ℕ) (here : at / 496 < blocks_in image) where
+  cell : cell_at (book_cells image) at ≡ book_cell image at
+  unfolding book_cells
+  cell = get_or-map-range_with_len (book_cell image) 0 (book_size image) at at spoiled_cell (omega arith) (omega arith)
 
-    inside : at < length (book_cells image)
-    inside = omega (arith, block_inside, length_book image)
+  pub kept_mark : is_some (payload_at image (at / 496)) ≡ true → (cell_at (book_cells image) at).mark ≡ marks.Kept
+  kept_mark some = ap (λ c. c.mark) cell ∙ mark_kept (table_at image (at / 496)) (at % 496) some
 
-    cell : cell_at (book_cells image) at ≡ book_cell image at
-    unfolding book_cells
-    cell = get_or-map-range_with_len (book_cell image) 0 (book_size image) at at spoiled_cell (omega (arith, block_inside)) (omega arith)
+  pub kept_byte : (payload : List ℕ) → payload_at image (at / 496) ≡ Some payload → (cell_at (book_cells image) at).byte ≡ get_or payload (at % 496) 0
+  kept_byte payload is = ap (λ c. c.byte) (cell ∙ cell_kept (table_at image (at / 496)) payload (at % 496) is)
 
-  module _ (is : sound_of image at ≡ Some true) where
-    kept : cell_at (book_cells image) at ≡ kept_cell (get_or image (512 * (at / 496) + 12 + at % 496) 0)
-    kept =
-        let block = block_at image (at / 496) in
-        cell true is ∙ sound-cell (opening 2 (at / 496) block) (payload_of block) (at % 496) (told _ _ _ is).1
-        ∙ ap kept_cell (payload_byte image (at / 496) (at % 496) (omega arith))
+  pub spoiled_mark : payload_at image (at / 496) ≡ None → (cell_at (book_cells image) at).mark ≡ marks.Spoiled
+  spoiled_mark is = ap (λ c. c.mark) (cell ∙ cell_spoiled (table_at image (at / 496)) (at % 496) is)
 
-    pub kept-marked : Ok marks.Kept ≡ marked (book_cells image) at
-    kept-marked = sym (answers.marked-inside (book_cells image) at (inside true is) ∙ ap (λ c. Ok c.mark) kept)
-
-    pub kept_read : Ok (get_or image (512 * (at / 496) + 12 + at % 496) 0) ≡ read_out (book_cells image) at
-    kept_read = sym (laws.reads (book_cells image) at (inside true is) (λ e. let k = ap (λ c. c.mark) kept in let z : ◌≡◌ {A = ℕ} 0 1 = cc in omega arith) ∙ ap (λ c. Ok c.byte) kept)
-
-    pub kept-wrote : Err refusals.NotOpen ≡ wrote (book_cells image) at
-    kept-wrote = sym (laws.writes_kept (book_cells image) at (inside true is) (ap (λ c. c.mark) kept))
-
-  module _ (is : sound_of image at ≡ Some false) where
-    spoiled : cell_at (book_cells image) at ≡ spoiled_cell
-    spoiled =
-        let block = block_at image (at / 496) in
-        cell false is ∙ unsound_cell (opening 2 (at / 496) block) (payload_of block) (at % 496) (told _ _ _ is).1
-
-    pub spoiled-marked : Ok marks.Spoiled ≡ marked (book_cells image) at
-    spoiled-marked = sym (answers.marked-inside (book_cells image) at (inside false is) ∙ ap (λ c. Ok c.mark) spoiled)
-
-    pub spoiled_read : Err refusals.Spoiled ≡ read_out (book_cells image) at
-    spoiled_read = sym (laws.reads-spoiled (book_cells image) at (inside false is) (ap (λ c. c.mark) spoiled))
-
-    pub spoiled-wrote : Err refusals.Spoiled ≡ wrote (book_cells image) at
-    spoiled-wrote = sym (laws.writes-spoiled (book_cells image) at (inside false is) (ap (λ c. c.mark) spoiled))
-
-  pub outside : sound_of image at ≡ None → length (book_cells image) ≤ at
-  outside is = omega (arith, ltb-false (at / 496) (blocks_in image) (untold _ _ is), length_book image)
-
-  -- whatever a write is refused for, nothing is written
-  pub unwritten : (byte : ℕ) (r : MemoryRefusal) → Err r ≡ wrote (book_cells image) at → book_cells image ≡ written (book_cells image) at byte
-  unwritten byte r refused = sym (laws.written-refused (book_cells image) at byte r (sym refused))
+-- what the calls of a book are proved with
+pub ruleset shelved = (length_book, kept_mark, kept_byte, spoiled_mark, laws.answering)

@@ -1,26 +1,19 @@
 -- A read-only image of table blocks as a memory.
-use Rattle.std.specs.Prelude.{◌≡◌, ℕ, ◌*◌, ◌/◌, ◌%◌, Bool, cond, List, ◌∷◌, map, length, take, drop, is_ok, Some, None, Ok, Err, Option, Result, ◌==◌, nat_lt, slice_index}
+use Rattle.std.specs.Prelude.{◌≡◌, ℕ, ◌*◌, ◌/◌, ◌%◌, ◌<◌, List, map, length, take, drop, None, Ok, Err, Option, Result, IfSome, option_map, slice_index, slice_index_or}
+use Rattle.std.specs.Result.{result_ok}
+use Rattle.std.specs.Borrow.{Bor}
 use Rattle.std.specs.List.{range_with_len}
-use Rattle.questions.specs.Questions.{first_no}
 use Rattle.blocks.specs.Asking.{opened}
 use Rattle.blocks.specs.Kinds.{kind_byte}
 use Rattle.blocks.specs.declared.kinds.Kind.TheVariants.{Table}
 use Rattle.blocks.specs.declared.refusals.BlockRefusal.{BlockRefusal}
-use Rattle.images.specs.Images.{blocks_in, sizes}
-use Rattle.images.specs.declared.refusals.ImageError.{ImageError}
-use Rattle.images.specs.declared.refusals.ImageError.TheVariants.{Refused, OutOfMemory}
+use Rattle.images.specs.Images.{blocks_in, measured}
 use Rattle.images.specs.declared.refusals.ImageRefusal.{ImageRefusal}
-use Rattle.images.specs.declared.refusals.ImageRefusal.TheVariants.{Length}
 use Rattle.memory.specs.Cells.{Cell, kept_cell, spoiled_cell}
 
 -- is the image as many whole blocks as a table may have?
 abbrev pub book_asks : List ℕ → Option ImageRefusal
-book_asks image = first_no (((length image % 512 == 0), Length) ∷ sizes Table (blocks_in image))
-
--- why a book is not opened: the first no, or want of memory where nothing got a no
-abbrev pub NotOpened : Option ImageRefusal → ImageError → Type 0
-NotOpened asked (Refused e) = asked ≡ Some e
-NotOpened asked OutOfMemory = asked ≡ None
+book_asks = measured Table
 
 -- the block at a place
 abbrev pub block_at : List ℕ → ℕ → List ℕ
@@ -29,10 +22,6 @@ block_at image place = take 512 (drop (512 * place) image)
 -- what the block at a place gives when it is opened as a table's
 abbrev pub table_at : List ℕ → ℕ → Result (List ℕ) BlockRefusal
 table_at image place = opened (kind_byte Table) place (block_at image place)
-
--- is that block sound?
-abbrev pub sound_at : List ℕ → ℕ → Bool
-sound_at image place = is_ok (table_at image place)
 
 -- a byte of a payload is kept, and one of a block that gives none is spoiled
 abbrev pub cell_in : Result (List ℕ) BlockRefusal → ℕ → Cell
@@ -51,10 +40,17 @@ book_size image = 496 * blocks_in image
 unfoldable pub book_cells : List ℕ → List Cell
 book_cells image = map (book_cell image) (range_with_len 0 (book_size image))
 
--- which blocks are sound, in order
-abbrev pub soundness : List ℕ → List Bool
-soundness image = map (sound_at image) (range_with_len 0 (blocks_in image))
+-- the payload of the block at a place, if the block is sound
+abbrev pub payload_at : List ℕ → ℕ → Option (List ℕ)
+payload_at image place = result_ok (table_at image place)
 
--- is the block of an address sound? Past the end there is none
-abbrev pub sound_of : List ℕ → ℕ → Option Bool
-sound_of image at = cond (nat_lt (at / 496) (blocks_in image)) (Some (sound_at image (at / 496))) None
+-- these are the payloads of the blocks of an image, in order
+abbrev pub Shelves : List ℕ → List (Option (Bor (List ℕ))) → Type 0
+Shelves image payloads = (length payloads ≡ blocks_in image)
+    × ((place : ℕ) → place < blocks_in image → option_map (λ payload. payload.now) (slice_index_or payloads place None) ≡ payload_at image place)
+
+-- this is the payload of the block of an address
+pub record IsShelvedAt (image : List ℕ) (at : ℕ) (payload : Option (Bor (List ℕ))) : Type 0 where
+  pub inside : at / 496 < blocks_in image
+  pub gives : option_map (λ bytes. bytes.now) payload ≡ payload_at image (at / 496)
+  pub long : IfSome payload (λ bytes. length bytes.now ≡ 496)

@@ -1,85 +1,80 @@
 // An image of table blocks as a memory: its payloads, kept where a block is sound and spoiled elsewhere.
-ghost use Rattle.std.specs.Prelude.{◌≡◌, ◌≤◌, is_ok, IfOk, None, MatchResult, refl};
+ghost use Rattle.std.specs.Prelude.{◌≡◌, ◌/◌, ◌<◌, ◌≤◌, IfOk, MatchResult, option_map, refl};
+ghost use Rattle.std.specs.Result.{result_ok};
 ghost use Rattle.std.proofs.Common.{ap, ◌∙◌};
 ghost use Rattle.blocks.specs.Asking.{opened};
 ghost use Rattle.blocks.specs.Kinds.{kind_byte};
 ghost use Rattle.blocks.specs.declared.kinds.Kind.TheVariants.{Table};
 ghost use Rattle.images.specs.Images.{blocks_in};
 ghost use Rattle.memory.specs.Cells.{marks_of};
-ghost use Rattle.book.specs.Books.{book_asks, book_cells, NotOpened, soundness, sound_of};
+ghost use Rattle.questions.specs.Failures.{Makes};
+ghost use Rattle.book.specs.Books.{book_asks, book_cells, Shelves, IsShelvedAt};
 ghost use Rattle.book.specs.LawfulBooks.{book_lawful};
 
 use blocks::kinds::Kind;
 use blocks::layout::{BLOCK, PAYLOAD};
 use blocks::opening::open as open_block;
-use images::refusals::{ImageError, ImageRefusal};
+use images::checking::count_blocks;
+use images::refusals::ImageError;
 use memory::marks::Mark;
 use memory::meaning::Memory;
 use memory::refusals::MemoryRefusal;
-use questions::ask;
 use std::alloc::{AllocError, Global};
-
-// Where the payload of a block begins.
-const HEADER: usize = 12;
 
 #[derive(Drop)]
 pub struct Book<'a> {
     image: &'a [u8],
-    // Whether each block is sound, decided once.
-    sound: Vec<bool>,
+    // The payload of each block, none where the block is not sound: decided once.
+    payloads: Vec<Option<&'a [u8]>>,
     ghost few: { blocks_in image.now ≤ 8192 },
-    ghost decided: { sound.items ≡ soundness image.now },
+    ghost decided: { Shelves image.now payloads.items },
 }
 
-// Whether a block opens as a table's at a place.
-fn is_sound(block: &[u8], place: u16) -> bool
-    ensures { result ≡ is_ok (opened (kind_byte Table) place block.now) }
+// The payload of the block at a place, if it opens as a table's there.
+fn payload_of(place: usize, block: &[u8]) -> Option<&[u8]>
+    ensures { place < 65536 → option_map (λ payload. payload.now) result ≡ result_ok (opened (kind_byte Table) place block.now) }
 {
-    open_block(block, Kind::Table, place).is_ok()
+    let place = u16::try_from(place).ok()?;
+    open_block(block, Kind::Table, place).ok()
 }
 
-// Whether each block of an image is sound.
-fn decide(heap: Global, image: &[u8]) -> Result<Vec<bool>, AllocError>
+// The payload of each block of an image.
+fn payloads<'a>(heap: Global, image: &'a [u8]) -> Result<Vec<Option<&'a [u8]>>, AllocError>
     requires { blocks_in image.now ≤ 8192 }
-    ensures { IfOk result (λ sound. sound.items ≡ soundness image.now) }
+    ensures { IfOk result (λ payloads. Shelves image.now payloads.items) }
 {
-    let mut sound = Vec::new(heap);
-    for place in 0..image.len() / BLOCK {
-        let from = BLOCK * place;
-        sound.push(is_sound(&image[from..from + BLOCK], place as u16))?;
-    }
-    Ok(sound)
+    image
+        .chunks_exact(BLOCK)
+        .enumerate()
+        .map(|(place, block)| payload_of(place, block))
+        .collect(heap)
 }
 
 impl<'a> Book<'a> {
     // Opens an image as a book. Unsound blocks are no reason to refuse it: their bytes are spoiled.
     pub fn open(heap: Global, image: &'a [u8]) -> Result<Book<'a>, ImageError>
-        ensures { MatchResult result (λ book. (book_asks image.now ≡ None) × (book.image.now ≡ image.now)) (λ e. NotOpened (book_asks image.now) e) }
+        ensures { Makes result (book_asks image.now) (book_asks image.now) (λ book. book.image.now ≡ image.now) }
     {
-        let blocks = image.len() / BLOCK;
-        ask(&[
-            (image.len() % BLOCK == 0, ImageRefusal::Length),
-            (1 <= blocks, ImageRefusal::Length),
-            (blocks <= Kind::Table.most_blocks(), ImageRefusal::Length),
-        ])?;
-        let sound = decide(heap, image)?;
-        Ok(Book { image, sound })
+        count_blocks(Kind::Table, image)?;
+        let payloads = payloads(heap, image)?;
+        Ok(Book { image, payloads })
     }
 
-    // Whether the block of an address is sound; none past the end.
-    fn sound_of(&self, at: usize) -> Option<bool>
-        ensures { result ≡ sound_of self.now.image.now at }
+    // The payload of the block of an address, none where it is spoiled.
+    #[tactic(auto, using(crate::proofs::Shelved::payload_long))]
+    fn payload(&self, at: usize) -> Result<Option<&'a [u8]>, MemoryRefusal>
+        ensures { MatchResult result (IsShelvedAt self.now.image.now at) (λ refusal. (blocks_in self.now.image.now ≤ at / 496) × (refusal ≡ MemoryRefusal.OutOfRange)) }
     {
-        let place = at / PAYLOAD;
-        if place < self.sound.len() {
-            Some(self.sound[place])
-        } else {
-            None
-        }
+        let payload = self
+            .payloads
+            .get(at / PAYLOAD)
+            .ok_or(MemoryRefusal::OutOfRange)?;
+        Ok(*payload)
     }
 }
 
 // A book never changes.
+#[tactic(auto, using(crate::proofs::Shelved::shelved))]
 impl<'a> Memory for Book<'a> {
     ghost cells = { λ b. book_cells b.image.now };
 
@@ -98,34 +93,21 @@ impl<'a> Memory for Book<'a> {
     }
 
     fn mark(&mut self, at: usize) -> Result<Mark, MemoryRefusal> {
-        let Some(sound) = self.sound_of(at) else {
-            return Err(MemoryRefusal::OutOfRange);
-        };
-        if sound {
-            Ok(Mark::Kept)
-        } else {
-            Ok(Mark::Spoiled)
-        }
+        Ok(match self.payload(at)? {
+            Some(_) => Mark::Kept,
+            None => Mark::Spoiled,
+        })
     }
 
     fn read(&mut self, at: usize) -> Result<u8, MemoryRefusal> {
-        let Some(sound) = self.sound_of(at) else {
-            return Err(MemoryRefusal::OutOfRange);
-        };
-        if !sound {
-            return Err(MemoryRefusal::Spoiled);
-        }
-        Ok(self.image[BLOCK * (at / PAYLOAD) + HEADER + at % PAYLOAD])
+        let payload = self.payload(at)?.ok_or(MemoryRefusal::Spoiled)?;
+        Ok(payload[at % PAYLOAD])
     }
 
     fn write(&mut self, at: usize, _byte: u8) -> Result<(), MemoryRefusal> {
-        let Some(sound) = self.sound_of(at) else {
-            return Err(MemoryRefusal::OutOfRange);
-        };
-        if sound {
-            Err(MemoryRefusal::NotOpen)
-        } else {
-            Err(MemoryRefusal::Spoiled)
-        }
+        Err(match self.payload(at)? {
+            Some(_) => MemoryRefusal::NotOpen,
+            None => MemoryRefusal::Spoiled,
+        })
     }
 }

@@ -8,14 +8,12 @@ use images::sealing::seal_all;
 use memory::marks::Mark;
 use memory::meaning::Memory;
 use memory::refusals::MemoryRefusal;
+use questions::refusals::Refusal;
 use std::test::*;
 
 // The size of a book, or why there is none.
 fn sized(opened: Result<Book, ImageError>) -> Result<usize, ImageError> {
-    match opened {
-        Ok(book) => Ok(book.size()),
-        Err(error) => Err(error),
-    }
+    Ok(opened?.size())
 }
 
 #[test]

@@ -7,9 +7,6 @@ use std::test::*;
 // Three table blocks, sealed; address a holds a mod 251.
 pub fn three_blocks(rt: &impl AllocGlobal) -> Result<Vec<u8>, Fail> {
     let heap = rt.alloc();
-    let mut bytes = Vec::new(heap);
-    for at in 0..3 * PAYLOAD {
-        bytes.push((at % 251) as u8)?;
-    }
+    let bytes: Vec<u8> = (0..3 * PAYLOAD).map(|at| (at % 251) as u8).collect(heap)?;
     Ok(seal_all(heap, Kind::Table, &bytes)?)
 }
