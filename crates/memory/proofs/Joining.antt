@@ -1,13 +1,13 @@
 -- A question to a join is the same question to its front or its back.
-use Rattle.std.proofs.Common.{◌≡◌, ℕ, ◌+◌, ◌<◌, min, ltb, List, ◌++◌, length, take, drop, set, Some, None, Option, sym, refl, ap, ◌∙◌, ⊎_elim, arith, length-append, length-take}
+use Rattle.std.proofs.Common.{◌≡◌, ℕ, ◌+◌, ◌<◌, min, ltb, List, ◌++◌, length, take, drop, set, sym, refl, ap, ◌∙◌, ⊎_elim, arith, length-append, length-take}
 use lib.Seq.{take-set-lt}
 use Rattle.std.proofs.lemmas.List.{get_or-take, get_or_append_left, get_or-append_right, set-append_left, set-append_right, drop-set-lt}
 use Rattle.std.proofs.lemmas.Bool.{lt-ltb, le-ltb, cases_lt}
-use Rattle.questions.specs.Questions.{answered, held_after}
-use Rattle.memory.specs.declared.refusals.MemoryRefusal.{MemoryRefusal}
+use Rattle.questions.specs.Questions.{answered}
 use Rattle.memory.specs.Cells.{Cell, cell_at, open_cell, spoiled_cell, write_asks, marked, read_out, wrote, written}
 use Rattle.memory.specs.Joins.{joined, cut_off}
 use Rattle.memory.proofs.Answers as answers
+use Rattle.memory.proofs.Laws.{written-accepted, written-refused, written_either}
 
 ltb_same : (i m j n : ℕ) → (i < m → j < n) → (j < n → i < m) → ltb i m ≡ ltb j n
 ltb_same i m j n to from =
@@ -35,14 +35,16 @@ module _ (xs ys : List Cell) (i j : ℕ) (s : Same xs ys i j) where
   unfolding wrote
   same-wrote = ap (λ o. answered o tt) same_asks
 
--- what is made of a list that was written, or not
-through : {X : Type 0} (F : List Cell → X) (o : Option MemoryRefusal) (new old : List Cell) → F (held_after o new old) ≡ held_after o (F new) (F old)
-through F None new old = refl
-through F (Some e) new old = refl
+  -- what is made of the one is written where the one is
+  same_written : (F : List Cell → List Cell) (byte : ℕ) → F xs ≡ ys → F (set xs i (open_cell byte)) ≡ set ys j (open_cell byte) → written ys j byte ≡ F (written xs i byte)
+  same_written F byte whole put =
+      written_either xs i byte (λ after. written ys j byte ≡ F after)
+      (λ ok. written-accepted ys j byte (sym same-wrote ∙ ok) ∙ sym put)
+      (λ r refused. written-refused ys j byte r (sym same-wrote ∙ refused) ∙ sym whole)
 
-untouched : {X : Type 0} (F : List Cell → X) (o : Option MemoryRefusal) (new old : List Cell) → F new ≡ F old → F (held_after o new old) ≡ F old
-untouched F None new old e = e
-untouched F (Some r) new old e = refl
+-- what is made of a list stays, where it does when a cell is set
+untouched : {X : Type 0} (F : List Cell → X) (cells : List Cell) (at byte : ℕ) → F (set cells at (open_cell byte)) ≡ F cells → F (written cells at byte) ≡ F cells
+untouched F cells at byte same = written_either cells at byte (λ after. F after ≡ F cells) (λ ok. same) (λ r refused. refl)
 
 pub length-joined : (f b : List Cell) → length (joined f b) ≡ min (length f + length b) 4194304
 unfolding joined
@@ -67,19 +69,15 @@ module _ (f b : List Cell) (at : ℕ) (low : at < 4194304) where
     front_wrote = sym (same-wrote f (joined f b) at at in_front)
 
     pub front_written : (byte : ℕ) → written (joined f b) at byte ≡ joined (written f at byte) b
-    unfolding written joined
+    unfolding joined
     front_written byte =
-        let put : joined (set f at (open_cell byte)) b ≡ set (joined f b) at (open_cell byte) =
-        ap (take 4194304) (sym (set-append_left f b at (open_cell byte) here)) ∙ take-set-lt 4194304 (f ++ b) at (open_cell byte) low in
-        sym (through (λ x. joined x b) (write_asks f at) (set f at (open_cell byte)) f
-        ∙ ap (λ x. held_after (write_asks f at) x (joined f b)) put
-        ∙ ap (λ o. held_after o (set (joined f b) at (open_cell byte)) (joined f b)) (same_asks f (joined f b) at at in_front))
+        same_written f (joined f b) at at in_front (λ x. joined x b) byte refl
+        (ap (take 4194304) (sym (set-append_left f b at (open_cell byte) here)) ∙ take-set-lt 4194304 (f ++ b) at (open_cell byte) low)
 
     pub front_cut : (byte : ℕ) → cut_off (written f at byte) b ≡ cut_off f b
-    unfolding written cut_off
+    unfolding cut_off
     front_cut byte =
-        untouched (λ x. cut_off x b) (write_asks f at) (set f at (open_cell byte)) f
-        (ap (drop 4194304) (sym (set-append_left f b at (open_cell byte) here)) ∙ drop-set-lt 4194304 (f ++ b) at (open_cell byte) low)
+        untouched (λ x. cut_off x b) f at byte (ap (drop 4194304) (sym (set-append_left f b at (open_cell byte) here)) ∙ drop-set-lt 4194304 (f ++ b) at (open_cell byte) low)
 
   module _ (i : ℕ) (there : at ≡ length f + i) where
     in_back : Same b (joined f b) i at
@@ -102,19 +100,15 @@ module _ (f b : List Cell) (at : ℕ) (low : at < 4194304) where
     append_set byte = ap (λ k. f ++ set b k (open_cell byte)) (omega arith) ∙ sym (set-append_right f b (length f) at (open_cell byte) refl (omega arith))
 
     pub back_written : (byte : ℕ) → written (joined f b) at byte ≡ joined f (written b i byte)
-    unfolding written joined
+    unfolding joined
     back_written byte =
-        let put : joined f (set b i (open_cell byte)) ≡ set (joined f b) at (open_cell byte) =
-        ap (take 4194304) (append_set byte) ∙ take-set-lt 4194304 (f ++ b) at (open_cell byte) low in
-        sym (through (joined f) (write_asks b i) (set b i (open_cell byte)) b
-        ∙ ap (λ x. held_after (write_asks b i) x (joined f b)) put
-        ∙ ap (λ o. held_after o (set (joined f b) at (open_cell byte)) (joined f b)) (same_asks b (joined f b) i at in_back))
+        same_written b (joined f b) i at in_back (joined f) byte refl
+        (ap (take 4194304) (append_set byte) ∙ take-set-lt 4194304 (f ++ b) at (open_cell byte) low)
 
     pub back_cut : (byte : ℕ) → cut_off f (written b i byte) ≡ cut_off f b
-    unfolding written cut_off
+    unfolding cut_off
     back_cut byte =
-        untouched (cut_off f) (write_asks b i) (set b i (open_cell byte)) b
-        (ap (drop 4194304) (append_set byte) ∙ drop-set-lt 4194304 (f ++ b) at (open_cell byte) low)
+        untouched (cut_off f) b i byte (ap (drop 4194304) (append_set byte) ∙ drop-set-lt 4194304 (f ++ b) at (open_cell byte) low)
 
 -- what the calls of a join are proved with
 pub ruleset joins = (length-joined, front_marked, front_read, front_wrote, front_written, front_cut, back_marked, back_read, back_wrote, back_written, back_cut, answers.past)

@@ -9,6 +9,8 @@ use super::refusals::MemoryRefusal;
 pub const LIMIT: usize = 4_194_304;
 
 // `mark`, `read` and `write` take the memory mutably, so that a layer may note what is asked of it.
+// `stays` and `same` are facts about a call, of the memory before and after it, so that no type holds them: each call states
+// both, in words that are shorter than a name for the two.
 pub trait Memory {
     // What the memory means.
     ghost cells: { Self → List Cell };

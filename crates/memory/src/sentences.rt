@@ -1,4 +1,5 @@
-// The calls of any memory, with its rules in plain sentences.
+// The calls of any memory, with its rules in plain sentences. They are no methods of the trait: that would give each call two
+// names there, and they differ only in what they say.
 ghost use Rattle.std.specs.Prelude.{◌≡◌, ℕ, ◌<◌, ◌≤◌, length, Ok, Err, ◌≢◌};
 ghost use Rattle.memory.specs.Cells.{cell_at, marks_of, open_cell, marked, read_out, wrote, written};
 

@@ -41,9 +41,7 @@ fn last_byte_of_work(rt: HostRuntime) {
 
 #[test]
 fn refused_in_turn(rt: HostRuntime) -> Result<(), Fail> {
-    let Some(mut sparse) = Sparse::new(3, 8) else {
-        return Err(Fail::new("too large"));
-    };
+    let mut sparse = Sparse::new(3, 8).ok_or("too large")?;
     assert_eq!(rt; sparse.size(), 20);
     let rows = [
         (
@@ -113,9 +111,7 @@ fn lenders(rt: HostRuntime) {
 
 #[test]
 fn joined_with_spoiled_and_kept(rt: HostRuntime) -> Result<(), Fail> {
-    let Some(mut sparse) = Sparse::new(1, 8) else {
-        return Err(Fail::new("too large"));
-    };
+    let mut sparse = Sparse::new(1, 8).ok_or("too large")?;
     let mut bytes = [1];
     let mut join = Join {
         front: Work::over(&mut bytes),
