@@ -7,6 +7,7 @@ use super::program::Program;
 use super::refusals::{LoadError, LoadRefusal};
 use blocks::kinds::Kind;
 use bundles::bundle::Bundle;
+use codes::bytes::Coded;
 use images::reading::payloads;
 use std::alloc::Global;
 
