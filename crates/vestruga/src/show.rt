@@ -3,7 +3,7 @@ use super::files;
 use super::troubles::Trouble;
 use blocks::headers::Header;
 use blocks::kinds::Kind;
-use blocks::layout::BLOCK;
+use blocks::layout::{self, BLOCK};
 use blocks::opening::open;
 use images::checking::{count_blocks, kind_of};
 use std::fmt;
@@ -12,7 +12,8 @@ pub(super) fn run(rt: &HostRuntime, path: &str, payload: bool) -> Result<(), Tro
     let image = files::read(rt, path)?;
     let kind = kind_of(&image);
     count_blocks(kind, &image)?;
-    for (place, bytes) in (0..u16::MAX).zip(image.chunks_exact(BLOCK)) {
+    let (blocks, _) = image.as_chunks::<BLOCK>();
+    for (place, bytes) in (0..u16::MAX).zip(blocks) {
         block(rt, kind, place, bytes, payload)?;
     }
     Ok(())
@@ -22,7 +23,7 @@ fn block(
     rt: &HostRuntime,
     kind: Kind,
     place: u16,
-    bytes: &[u8],
+    bytes: &[u8; BLOCK],
     payload: bool,
 ) -> Result<(), Trouble> {
     if let Some(header) = Header::read(bytes) {
@@ -39,17 +40,17 @@ fn block(
         Ok(_) => println!(rt; "sound")?,
         Err(refusal) => println!(rt; "refused, {refusal}")?,
     }
-    if payload && bytes.len() == BLOCK {
-        dump(rt, &bytes[12..508])?;
+    if payload {
+        dump(rt, layout::payload(bytes))?;
     }
     Ok(())
 }
 
 fn kind_name(byte: u8) -> &'static str {
-    match Kind::named(byte) {
-        Some(Kind::Code) => "code",
-        Some(Kind::Table) => "table",
-        None => "unknown",
+    match Kind::try_from(byte) {
+        Ok(Kind::Code) => "code",
+        Ok(Kind::Table) => "table",
+        Err(_) => "unknown",
     }
 }
 
