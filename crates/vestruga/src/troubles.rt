@@ -24,9 +24,15 @@ pub(super) enum Trouble {
     #[error("there is not memory enough")]
     OutOfMemory,
     #[error("{path} cannot be read: {error}")]
-    NotRead { path: String, error: io::Error },
+    NotRead {
+        path: String,
+        error: io::Error,
+    },
     #[error("{path} cannot be written: {error}")]
-    NotWritten { path: String, error: io::Error },
+    NotWritten {
+        path: String,
+        error: io::Error,
+    },
     // What is printed is all that a command writes by itself: files go by their own cases.
     #[error("standard output cannot be written: {0}")]
     Output(#[from] io::Error),
