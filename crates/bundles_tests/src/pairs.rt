@@ -9,10 +9,10 @@ use operations::operation::Operation;
 fn lawful_arguments(number: u8) -> (u16, bool) {
     let mut lawful: u16 = 0;
     let mut back = true;
-    for argument in 0..256u16 {
-        if let Some(operation) = Operation::decode(&[number, argument as u8]) {
+    for argument in 0..=u8::MAX {
+        if let Some(operation) = Operation::decode(&[number, argument]) {
             lawful = lawful.wrapping_add(1);
-            back = back && operation.encode() == [number, argument as u8];
+            back = back && operation.encode() == [number, argument];
         }
     }
     (lawful, back)
@@ -34,9 +34,9 @@ fn expected_arguments(number: u8) -> u16 {
 #[test]
 fn every_operation_with_every_argument(rt: HostRuntime) {
     let mut lawful: u16 = 0;
-    for number in 0..256u16 {
-        let (found, back) = lawful_arguments(number as u8);
-        assert_eq!(rt; found, expected_arguments(number as u8));
+    for number in 0..=u8::MAX {
+        let (found, back) = lawful_arguments(number);
+        assert_eq!(rt; found, expected_arguments(number));
         assert!(rt; back);
         lawful = lawful.wrapping_add(found);
     }
@@ -47,11 +47,11 @@ fn every_operation_with_every_argument(rt: HostRuntime) {
 fn lawful_moves(value: u8) -> (u16, bool) {
     let mut lawful: u16 = 0;
     let mut back = true;
-    for code in 0..256u16 {
-        for selector in 0..256u16 {
-            if let Some(made) = Move::decode(&[code as u8, selector as u8, value]) {
+    for code in 0..=u8::MAX {
+        for selector in 0..=u8::MAX {
+            if let Some(made) = Move::decode(&[code, selector, value]) {
                 lawful = lawful.wrapping_add(1);
-                back = back && made.encode() == [code as u8, selector as u8, value];
+                back = back && made.encode() == [code, selector, value];
             }
         }
     }
@@ -73,9 +73,9 @@ fn every_code_with_every_selector(rt: HostRuntime) {
 
 #[test]
 fn thirty_two_condition_bytes(rt: HostRuntime) {
-    for byte in 0..256u16 {
-        match Check::from_number(byte as u8) {
-            Some(asked) => assert_eq!(rt; (byte < 32, asked.number()), (true, byte as u8)),
+    for byte in 0..=u8::MAX {
+        match Check::from_number(byte) {
+            Some(asked) => assert_eq!(rt; (byte < 32, asked.number()), (true, byte)),
             None => assert!(rt; byte >= 32),
         }
     }
