@@ -4,7 +4,6 @@ use Rattle.branches.specs.Made.{made_if}
 use Rattle.branches.specs.Named.{any_of}
 use Rattle.branches.specs.declared.stacks.Stacks.{Stacks}
 use Rattle.codes.specs.Bits.{bit}
-use Rattle.operations.specs.Places.{stack_number}
 use Rattle.operations.specs.declared.places.StackNumber.{StackNumber}
 use Rattle.operations.specs.declared.places.StackNumber.TheVariants.{Zero, One, Two, Three}
 
@@ -14,7 +13,10 @@ stacks_of named = made_if (any_of named) (λ some. record { named = named; some 
 
 -- whether a stack is among them
 abbrev pub names : Stacks → StackNumber → Bool
-names stacks stack = slice_index_or stacks.named (stack_number stack) false
+names stacks Zero = slice_index_or stacks.named 0 false
+names stacks One = slice_index_or stacks.named 1 false
+names stacks Two = slice_index_or stacks.named 2 false
+names stacks Three = slice_index_or stacks.named 3 false
 
 -- how many they are
 abbrev pub named_count : Stacks → ℕ

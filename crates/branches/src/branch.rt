@@ -59,7 +59,7 @@ impl Coded<2> for Choice {
         })
     }
 
-    #[tactic(auto, using(crate::proofs::Halves::low_half, crate::proofs::Halves::high_half))]
+    #[tactic(auto, using(codes::proofs::Halves::low_half, codes::proofs::Halves::high_half))]
     fn encode(self) -> [u8; 2]
         ensures value { result ≡ encoded_choice self }
         ensures back { decoded_choice (slice_index result 0) (slice_index result 1) ≡ Some self }

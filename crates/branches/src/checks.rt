@@ -26,7 +26,7 @@ impl Numbered for Check {
         })
     }
 
-    #[tactic(auto, using(crate::proofs::Halves::low_half, crate::proofs::Halves::high_half))]
+    #[tactic(auto, using(codes::proofs::Halves::low_half, codes::proofs::Halves::high_half))]
     fn number(self) -> u8 {
         self.condition.number() + 16 * self.pops.number()
     }

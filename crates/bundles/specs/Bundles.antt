@@ -1,16 +1,16 @@
 -- A bundle's sixteen bytes: slots 0 to 2, an operation byte and an argument byte each, and the ending.
-use Rattle.std.specs.Prelude.{ℕ, cond, List, [], ◌∷◌, ◌++◌, length, drop, Some, None, Option, ◌==◌, slice_index, unwrap_or}
+use Rattle.std.specs.Prelude.{ℕ, cond, List, [], ◌∷◌, ◌++◌, length, drop, Some, None, Option, ◌==◌, slice_index, slice_index_or}
 use Rattle.bundles.specs.Endings.{decoded_ending, encoded_ending}
 use Rattle.bundles.specs.declared.bundle.Bundle.{Bundle}
 use Rattle.bundles.specs.declared.ending.Ending.{Ending}
 use Rattle.bundles.specs.declared.ending.Ending.TheVariants.{Slot, Call, Jump}
 use Rattle.operations.specs.Operations.{decoded_operation, encoded_operation}
-use Rattle.operations.specs.Places.{stack_number}
 use Rattle.operations.specs.declared.kinds.Special.TheVariants.{FetchIp}
 use Rattle.operations.specs.declared.operation.Operation.{Operation}
 use Rattle.operations.specs.declared.operation.Operation.TheVariants.{Nop, Special}
 use Rattle.operations.specs.declared.places.StackNumber.{StackNumber}
-use Rattle.std.specs.List.{flat_map, slice_get}
+use Rattle.operations.specs.declared.places.StackNumber.TheVariants.{Zero, One, Two, Three}
+use Rattle.std.specs.List.{flat_map}
 
 -- a bundle of its four parts, if they are all there
 abbrev pub bundle_of : Option Operation → Option Operation → Option Operation → Option Ending → Option Bundle
@@ -42,4 +42,7 @@ last_operation (Jump target) = Nop
 
 -- the operation that a stack's slot runs
 abbrev pub operation_at : Bundle → StackNumber → Operation
-operation_at bundle stack = unwrap_or (slice_get bundle.slots (stack_number stack)) (last_operation bundle.ending)
+operation_at bundle Zero = slice_index_or bundle.slots 0 Nop
+operation_at bundle One = slice_index_or bundle.slots 1 Nop
+operation_at bundle Two = slice_index_or bundle.slots 2 Nop
+operation_at bundle Three = last_operation bundle.ending

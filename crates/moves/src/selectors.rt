@@ -50,6 +50,7 @@ impl Numbered for Reach {
         Some(Reach { port, mode })
     }
 
+    #[tactic(auto, using(codes::proofs::Halves::low_half, codes::proofs::Halves::high_half))]
     fn number(self) -> u8 {
         self.port.number() + 16 * self.mode.number()
     }
@@ -75,6 +76,7 @@ impl Numbered for Access {
         Some(Access { register, port })
     }
 
+    #[tactic(auto, using(codes::proofs::Halves::low_half, codes::proofs::Halves::high_half))]
     fn number(self) -> u8 {
         self.port.number() + 16 * self.register.number()
     }

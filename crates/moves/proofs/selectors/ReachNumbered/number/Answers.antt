@@ -1,5 +1,0 @@
-use Rattle.moves.proofs.Bits.{reach_back}
-use Rattle.moves.proofs.selectors.ReachNumbered.number.Goals as goal
-
-pub returns-clause-back : goal.returns-clause-back
-returns-clause-back c = reach_back c.number.result c.number-2.result c.number.ensures.below c.args.self c.number.ensures.back c.number-2.ensures.back
