@@ -1,5 +1,5 @@
 // How a block lies: a header, a payload, and the check word of both.
-ghost use Rattle.std.specs.Prelude.{◌≡◌, ◌≤◌, length};
+ghost use Rattle.std.specs.Prelude.{◌≡◌};
 ghost use Rattle.blocks.specs.Layout.{payload_of};
 
 // A whole block.
@@ -17,8 +17,7 @@ pub const COVERED: usize = HEADER + PAYLOAD;
 pub const EDITION: u8 = 1;
 
 // What a whole block carries.
-pub fn payload(block: &[u8]) -> &[u8]
-    requires { 508 ≤ length block.now }
+pub fn payload(block: &[u8; BLOCK]) -> &[u8]
     ensures { result.now ≡ payload_of block.now }
 {
     &block[HEADER..COVERED]

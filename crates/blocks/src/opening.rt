@@ -7,7 +7,7 @@ ghost use Rattle.blocks.specs.Layout.{sealed, all_zero};
 use super::check::check_word;
 use super::headers::Header;
 use super::kinds::Kind;
-use super::layout::{COVERED, EDITION, HEADER, payload};
+use super::layout::{COVERED, EDITION, HEADER};
 use super::refusals::BlockRefusal;
 use questions::ask;
 
@@ -24,7 +24,7 @@ pub fn open(bytes: &[u8], kind: Kind, place: u16) -> Result<&[u8], BlockRefusal>
     ask(all_zero(&bytes[4..HEADER]), BlockRefusal::NotZero)?;
     let word = check_word(&bytes[0..COVERED]);
     ask(header.check == word, BlockRefusal::WrongCheck)?;
-    Ok(payload(bytes))
+    Ok(&bytes[HEADER..COVERED])
 }
 
 fn all_zero(bytes: &[u8]) -> bool

@@ -1,9 +1,9 @@
-use Rattle.std.proofs.Common.{◌≡◌, rules, None, Some, Ok, sym, ap, ◌∙◌}
+use Rattle.std.proofs.Common.{◌≡◌, rules, None, Some, sym, ap, ◌∙◌}
 use Rattle.questions.specs.Questions.{answered}
 use Rattle.questions.proofs.Answered.{passes, stops}
 use Rattle.blocks.specs.Asking.{opening}
 use Rattle.blocks.specs.Kinds.{kind_byte}
-use Rattle.blocks.specs.Layout.{sealed, payload_of}
+use Rattle.blocks.specs.Layout.{payload_of}
 use Rattle.blocks.proofs.Asked.{sound, whole}
 use Rattle.blocks.proofs.Bytes.{bytes_from}
 use Rattle.blocks.proofs.OnlySealed.{only-sealed}
@@ -32,6 +32,6 @@ returns c =
     ∙ passes _ _ _ _ (sym c.ask-4.ensures ∙ c.in_ok-ask-4.was)
     ∙ passes _ _ _ _ (sym c.ask-5.ensures ∙ c.in_ok-ask-5.was) in
     record {
-      answers = ap Ok c.payload.ensures ∙ sym (ap (λ o. answered o (payload_of xs)) none);
-      exact = only-sealed kind c.args.place xs (bytes_from xs (λ i. (c.type_inv.bytes i).fits)) (sound kind c.args.place xs none) ∙ ap (sealed kind c.args.place) (sym c.payload.ensures);
+      answers = sym (ap (λ o. answered o (payload_of xs)) none);
+      exact = only-sealed kind c.args.place xs (bytes_from xs (λ i. (c.type_inv.bytes i).fits)) (sound kind c.args.place xs none);
     }
