@@ -1,11 +1,12 @@
 -- Every block that opens is the sealing of what it carries.
-use Rattle.std.proofs.Common.{◌≡◌, ℕ, ◌<◌, true, eqb, List, [], ◌∷◌, ◌++◌, length, get_or, take, drop, replicate, refl, ap, ◌∙◌, arith, length-drop, take-append-drop, length-take}
+use Rattle.std.proofs.Common.{◌≡◌, ℕ, true, eqb, List, [], ◌∷◌, ◌++◌, length, take, drop, replicate, refl, ap, ◌∙◌, arith, length-drop, take-append-drop, length-take}
 use Rattle.std.proofs.lemmas.Slice.Eq.{text_from_reads}
 use Rattle.std.proofs.lemmas.List.{drop-drop, get_or-take, get_or-drop, take_at}
 use Rattle.std.proofs.lemmas.Bool.{eqb-true, and_parts}
 use Rattle.blocks.specs.Check.{check_word}
 use Rattle.blocks.specs.Layout.{two_bytes, four_bytes, covered, sealed, all_zero, payload_of}
 use Rattle.blocks.proofs.Asked.{Sound}
+use Rattle.blocks.proofs.Bytes.{Bytes}
 
 zero_list : (xs : List ℕ) → all_zero xs ≡ true → xs ≡ replicate (length xs) 0
 zero_list [] e = refl
@@ -24,12 +25,12 @@ four_parts xs =
     let f = drop-drop 496 12 xs in
     cc
 
-module _ (kind place : ℕ) (xs : List ℕ) (bytes : (i : ℕ) → get_or xs i 0 < 256) (h : Sound kind place xs) where
+module _ (kind place : ℕ) (xs : List ℕ) (bytes : Bytes xs) (h : Sound kind place xs) where
   first4 : take 4 xs ≡ kind ∷ 1 ∷ two_bytes place
   first4 =
       let l : length (take 4 xs) ≡ 4 = simp length-take (omega (arith, h.long)) in
-      let b2 = bytes 2 in
-      let b3 = bytes 3 in
+      let b2 = bytes 2 0 (omega (arith, h.long)) in
+      let b3 = bytes 3 0 (omega (arith, h.long)) in
       text_from_reads (take 4 xs) (kind ∷ 1 ∷ two_bytes place) l (
         get_or-take 4 xs 0 0 (omega arith) ∙ h.kind_is,
         (
@@ -52,10 +53,10 @@ module _ (kind place : ℕ) (xs : List ℕ) (bytes : (i : ℕ) → get_or xs i 0
   last4 : drop 508 xs ≡ four_bytes (check_word (take 508 xs))
   last4 =
       let l : length (drop 508 xs) ≡ 4 = simp length-drop (omega (arith, h.long)) in
-      let b0 = bytes 508 in
-      let b1 = bytes 509 in
-      let b2 = bytes 510 in
-      let b3 = bytes 511 in
+      let b0 = bytes 508 0 (omega (arith, h.long)) in
+      let b1 = bytes 509 0 (omega (arith, h.long)) in
+      let b2 = bytes 510 0 (omega (arith, h.long)) in
+      let b3 = bytes 511 0 (omega (arith, h.long)) in
       text_from_reads (drop 508 xs) (four_bytes (check_word (take 508 xs))) l (
         get_or-drop 508 xs 0 0 ∙ omega (arith, h.check_is),
         (

@@ -1,36 +1,30 @@
 -- A sealed block opens, and gives its payload back.
-use Rattle.std.proofs.Common.{◌≡◌, ℕ, suc, ◌+◌, ◌*◌, ◌/◌, ◌%◌, ◌^◌, ◌<◌, List, [], ◌∷◌, ◌++◌, length, get_or, take, replicate, None, Ok, fold, sym, refl, ap, ◌∙◌, arith, length-append}
+use Rattle.std.proofs.Common.{◌≡◌, ℕ, suc, ◌+◌, ◌/◌, ◌%◌, ◌^◌, ◌<◌, List, [], ◌∷◌, ◌++◌, length, get_or, take, replicate, None, Ok, fold, sym, refl, ap, ◌∙◌, arith, length-append}
 use Rattle.std.proofs.lemmas.Nat.{xor_lt}
 use Rattle.std.proofs.lemmas.List.{take_at, get_or-append_right}
 use Rattle.questions.specs.Questions.{answered}
 use Rattle.blocks.specs.Asking.{opening, opened}
 use Rattle.blocks.specs.Check.{check_word, mixed, rotated}
-use Rattle.blocks.specs.Layout.{four_bytes, covered, sealed, four_at, payload_of}
+use Rattle.blocks.specs.Layout.{two_bytes, four_bytes, covered, sealed, four_at, payload_of}
 use Rattle.blocks.proofs.Asked.{Sound, opens}
-use Rattle.blocks.proofs.Bytes.{Bytes, bytes_cons, bytes-append, bytes_zeros}
+use Rattle.std.proofs.lemmas.List.Elements.{All-append, All-cons, All-replicate}
+use Rattle.std.proofs.lemmas.Nat.{from_be_bytes-to_be_bytes_4}
+use Rattle.blocks.proofs.Bytes.{Byte, Bytes}
 
 mixed_fits : (w b : ℕ) → b < 256 → w < 2 ^ 32 → mixed w b < 2 ^ 32
 mixed_fits w b hb hw = xor_lt 32 (rotated w) b (omega arith) (omega arith)
 
 pub check_fits : (xs : List ℕ) (w : ℕ) → w < 2 ^ 32 → Bytes xs → fold mixed w xs < 2 ^ 32
 check_fits [] w hw hb = hw
-check_fits (x ∷ xs) w hw hb = check_fits xs (mixed w x) (mixed_fits w x (hb 0) hw) (λ i. hb (suc i))
+check_fits (x ∷ xs) w hw hb = check_fits xs (mixed w x) (mixed_fits w x (hb 0 0 (omega arith)) hw) (λ k d here. hb (suc k) d (omega arith))
 
 covered-bytes : (kind number : ℕ) (p : List ℕ) → kind < 256 → Bytes p → Bytes (covered kind number p)
 covered-bytes kind number p hk hp =
     let z = replicate 8 0 ++ p in
-    let a = bytes_cons (number % 256) z (omega arith) (bytes-append (replicate 8 0) p (bytes_zeros 8) hp) in
-    let b = bytes_cons (number / 256 % 256) (number % 256 ∷ z) (omega arith) a in
-    bytes_cons kind (1 ∷ number / 256 % 256 ∷ number % 256 ∷ z) hk (bytes_cons 1 (number / 256 % 256 ∷ number % 256 ∷ z) (omega arith) b)
-
--- a word is the number that its four bytes make
-digits : (w : ℕ) → w < 2 ^ 32 → w / 16777216 % 256 * 16777216 + w / 65536 % 256 * 65536 + w / 256 % 256 * 256 + w % 256 ≡ w
-digits w hw =
-    let d : w / 16777216 % 256 ≡ w / 16777216 = omega arith in
-    let c : w / 65536 ≡ w / 16777216 * 256 + w / 65536 % 256 = omega arith in
-    let b : w / 256 ≡ w / 65536 * 256 + w / 256 % 256 = omega arith in
-    let a : w ≡ w / 256 * 256 + w % 256 = omega arith in
-    omega arith
+    let zeros = All-append Byte (replicate 8 0) p (All-replicate Byte 8 0 (omega arith)) hp in
+    let low = All-cons Byte (number % 256) z (omega arith) zeros in
+    let high = All-cons Byte (number / 256 % 256) (number % 256 ∷ z) (omega arith) low in
+    All-cons Byte kind (1 ∷ two_bytes number ++ z) hk (All-cons Byte 1 (two_bytes number ++ z) (omega arith) high)
 
 word_after : (b : List ℕ) (w : ℕ) → length b ≡ 508 → w < 2 ^ 32 → four_at (b ++ four_bytes w) 508 ≡ w
 word_after b w lb hw =
@@ -38,7 +32,7 @@ word_after b w lb hw =
     let e1 : get_or (b ++ four_bytes w) 509 0 ≡ w / 65536 % 256 = get_or-append_right b (four_bytes w) 508 509 0 lb (omega arith) in
     let e2 : get_or (b ++ four_bytes w) 510 0 ≡ w / 256 % 256 = get_or-append_right b (four_bytes w) 508 510 0 lb (omega arith) in
     let e3 : get_or (b ++ four_bytes w) 511 0 ≡ w % 256 = get_or-append_right b (four_bytes w) 508 511 0 lb (omega arith) in
-    omega (arith, digits w hw)
+    omega (arith, from_be_bytes-to_be_bytes_4 w hw)
 
 module _ (kind number : ℕ) (p : List ℕ) (lp : length p ≡ 496) where
   long-covered : length (covered kind number p) ≡ 508

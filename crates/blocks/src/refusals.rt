@@ -3,6 +3,7 @@ ghost use Rattle.std.specs.Prelude.{Some};
 ghost use Rattle.blocks.specs.Refusals.{seal_number, seal_question, seal_text, block_number, block_question, block_text};
 
 use questions::refusals::Refusal;
+use std::error::Error;
 use std::fmt;
 
 // Why a payload is not sealed.
@@ -38,6 +39,8 @@ impl fmt::Display for SealRefusal {
         self.show(f)
     }
 }
+
+impl Error for SealRefusal {}
 
 // Why a block is not opened.
 #[derive(Clone, Copy, PartialEq, Eq, Debug)]
@@ -78,3 +81,5 @@ impl fmt::Display for BlockRefusal {
         self.show(f)
     }
 }
+
+impl Error for BlockRefusal {}

@@ -10,18 +10,19 @@ use Rattle.blocks.specs.Layout.{sealed, payload_of}
 use Rattle.blocks.specs.declared.kinds.Kind.{Kind}
 use Rattle.blocks.specs.declared.refusals.BlockRefusal.{BlockRefusal}
 use Rattle.blocks.proofs.Asked.{sound}
-use Rattle.blocks.proofs.Bytes.{Bytes, bytes_take, bytes_drop}
+use Rattle.std.proofs.lemmas.List.Elements.{All-take, All-drop}
+use Rattle.blocks.proofs.Bytes.{Byte, Bytes}
 use Rattle.blocks.proofs.OnlySealed.{only-sealed}
 use Rattle.images.specs.declared.refusals.ImageRefusal.TheVariants.{Length}
 use Rattle.images.specs.Images.{in_block, blocks_in, sizes, blocks_asked, checking, payloads_of, blocks_for, filled_to, sealed_from, sealed_all}
 
 or_none : {R : Type 0} (a b : Option R) → or_else a b ≡ None → (a ≡ None) × (b ≡ None)
 or_none None b e = (refl, e)
-or_none (Some r) b e = absurd (let z : ◌≡◌ {A = ℕ} 0 1 = cc in omega arith)
+or_none (Some r) b e = cc
 
 in_block_none : (place : ℕ) (o : Option BlockRefusal) → in_block place o ≡ None → o ≡ None
 in_block_none place None e = refl
-in_block_none place (Some r) e = absurd (let z : ◌≡◌ {A = ℕ} 0 1 = cc in omega arith)
+in_block_none place (Some r) e = cc
 
 -- a payload that is long enough is not filled up
 pub filled_whole : (payload : List ℕ) → length payload ≡ 496 → filled_to 496 payload ≡ payload
@@ -50,8 +51,8 @@ only_sealed_from kind (suc n) place image bytes long none =
     let first : length block ≡ 512 = simp length-take (omega arith) in
     let rest : length others ≡ n * 512 = simp length-drop (omega arith) in
     let whole = length_payload block first in
-    let here = only-sealed kind place block (bytes_take 512 image bytes) (sound kind place block (in_block_none place (opening kind place block) p.0)) in
-    let there = only_sealed_from kind n (place + 1) others (bytes_drop 512 image bytes) rest p.1 in
+    let here = only-sealed kind place block (All-take Byte 512 image bytes) (sound kind place block (in_block_none place (opening kind place block) p.0)) in
+    let there = only_sealed_from kind n (place + 1) others (All-drop Byte 512 image bytes) rest p.1 in
     let front : filled_to 496 (take 496 (payload ++ later)) ≡ payload = ap (filled_to 496) (take_at payload later 496 whole) ∙ filled_whole payload whole in
     let back : drop 496 (payload ++ later) ≡ later = drop_at payload later 496 whole in
     sym (take-append-drop 512 image) ∙ ap (λ b. b ++ others) here ∙ ap (λ l. sealed kind place payload ++ l) there

@@ -10,7 +10,8 @@ use Rattle.blocks.specs.Kinds.{kind_byte, most_blocks}
 use Rattle.blocks.specs.Layout.{sealed, payload_of}
 use Rattle.blocks.specs.declared.kinds.Kind.{Kind}
 use Rattle.blocks.specs.declared.kinds.Kind.TheVariants.{Code, Table}
-use Rattle.blocks.proofs.Bytes.{Bytes, bytes-append, bytes_zeros, bytes_take, bytes_drop}
+use Rattle.std.proofs.lemmas.List.Elements.{All-append, All-replicate, All-take, All-drop}
+use Rattle.blocks.proofs.Bytes.{Byte, Bytes}
 use Rattle.blocks.proofs.ReadsBack.{long-sealed, payload_back, opens-sealed}
 use Rattle.images.specs.declared.refusals.ImageRefusal.TheVariants.{Length}
 use Rattle.images.specs.Images.{in_block, blocks_in, sizes, blocks_asked, checking, payloads_of, read_back, blocks_for, filled_to, sealed_from, sealed_all}
@@ -23,7 +24,9 @@ long-first : (bytes : List ℕ) → length (first bytes) ≡ 496
 long-first bytes = simp (length-append, length-replicate, length-take) (omega arith)
 
 bytes-first : (bytes : List ℕ) → Bytes bytes → Bytes (first bytes)
-bytes-first bytes b = bytes-append (take 496 bytes) (replicate (496 - length (take 496 bytes)) 0) (bytes_take 496 bytes b) (bytes_zeros (496 - length (take 496 bytes)))
+bytes-first bytes b =
+    let n = 496 - length (take 496 bytes) in
+    All-append Byte (take 496 bytes) (replicate n 0) (All-take Byte 496 bytes b) (All-replicate Byte n 0 (omega arith))
 
 module _ (kind : ℕ) where
   head_block : (place n : ℕ) (bytes : List ℕ) → take 512 (sealed_from kind place (suc n) bytes) ≡ sealed kind place (first bytes)
@@ -46,7 +49,7 @@ module _ (kind : ℕ) where
       ap (λ o. or_else (in_block place (opening kind place o)) (blocks_asked kind (place + 1) n (drop 512 (sealed_from kind place (suc n) bytes)))) (head_block place n bytes)
       ∙ ap (λ o. or_else (in_block place o) (blocks_asked kind (place + 1) n (drop 512 (sealed_from kind place (suc n) bytes)))) opens
       ∙ ap (blocks_asked kind (place + 1) n) (tail_blocks place n bytes)
-      ∙ asked_from small n (place + 1) (drop 496 bytes) (omega arith) (bytes_drop 496 bytes b)
+      ∙ asked_from small n (place + 1) (drop 496 bytes) (omega arith) (All-drop Byte 496 bytes b)
 
   -- a filled payload, and then what is left filled up, is all of it filled up
   filled_more : (n : ℕ) (bytes : List ℕ) → length bytes ≤ suc n * 496 → first bytes ++ filled_to (n * 496) (drop 496 bytes) ≡ filled_to (suc n * 496) bytes

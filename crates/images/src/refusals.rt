@@ -5,6 +5,7 @@ ghost use Rattle.images.specs.Refusals.{image_number, image_question, image_text
 use blocks::refusals::BlockRefusal;
 use questions::failures::Failure;
 use questions::refusals::Refusal;
+use std::error::Error;
 use std::fmt;
 
 // Its length, or the first block that does not open.
@@ -44,6 +45,8 @@ impl fmt::Display for ImageRefusal {
         }
     }
 }
+
+impl Error for ImageRefusal {}
 
 // What can go wrong where an image is made or read.
 pub type ImageError = Failure<ImageRefusal>;

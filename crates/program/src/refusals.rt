@@ -5,6 +5,7 @@ ghost use Rattle.program.specs.Refusals.{load_number, load_question, load_text};
 use images::refusals::ImageRefusal;
 use questions::failures::Failure;
 use questions::refusals::Refusal;
+use std::error::Error;
 use std::fmt;
 
 // The image's own refusal, or the first bundle that is not lawful.
@@ -47,6 +48,8 @@ impl fmt::Display for LoadRefusal {
         }
     }
 }
+
+impl Error for LoadRefusal {}
 
 // What can go wrong where a program is loaded.
 pub type LoadError = Failure<LoadRefusal>;

@@ -5,6 +5,7 @@ ghost use Rattle.questions.specs.declared.failures.Failure.TheVariants.{Refused 
 
 use super::refusals::Refusal;
 use std::alloc::AllocError;
+use std::error::Error;
 use std::fmt;
 
 #[derive(Clone, Copy, PartialEq, Eq, Debug)]
@@ -52,3 +53,5 @@ impl<R: fmt::Display> fmt::Display for Failure<R> {
         }
     }
 }
+
+impl<R: Error> Error for Failure<R> {}

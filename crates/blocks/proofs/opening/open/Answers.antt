@@ -5,6 +5,7 @@ use Rattle.blocks.specs.Asking.{opening}
 use Rattle.blocks.specs.Kinds.{kind_byte}
 use Rattle.blocks.specs.Layout.{payload_of}
 use Rattle.blocks.proofs.Asked.{sound, whole}
+use Rattle.blocks.proofs.Bytes.{bytes_from}
 use Rattle.blocks.proofs.OnlySealed.{only-sealed}
 use Rattle.blocks.proofs.opening.open.Goals as goal
 
@@ -32,5 +33,5 @@ returns c =
     ∙ passes _ _ _ _ (sym c.ask-5.ensures ∙ c.in_ok-ask-5.was) in
     record {
       answers = sym (ap (λ o. answered o (payload_of xs)) none);
-      exact = only-sealed kind c.args.place xs (λ i. (c.type_inv.bytes i).fits) (sound kind c.args.place xs none);
+      exact = only-sealed kind c.args.place xs (bytes_from xs (λ i. (c.type_inv.bytes i).fits)) (sound kind c.args.place xs none);
     }

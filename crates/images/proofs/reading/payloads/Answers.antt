@@ -2,6 +2,7 @@ use Rattle.std.proofs.Common.{◌≡◌, vec_items, sym, ap, ◌∙◌, take_all
 use Rattle.std.specs.List.{flat_map}
 use Rattle.questions.proofs.Answered.{accepted}
 use Rattle.blocks.specs.Layout.{payload_of}
+use Rattle.blocks.proofs.Bytes.{bytes_from}
 use Rattle.images.specs.Images.{blocks_in, payloads_of, sealed_all}
 use Rattle.images.proofs.OnlySealed.{only-sealed-all}
 use Rattle.images.proofs.Payloads.{payloads_are}
@@ -15,5 +16,5 @@ returns c =
     c.loop-block.invariant ∙ ap (flat_map payload_of) (take_all _ _ c.loop-block-test.false ∙ c.as_chunks.ensures.front) ∙ sym (payloads_are (blocks_in image) image) in
     record {
       answers = (none, gathered);
-      exact = only-sealed-all c.args.kind image (λ i. (c.type_inv.image i).fits) none ∙ sym (ap (sealed_all c.args.kind) gathered);
+      exact = only-sealed-all c.args.kind image (bytes_from image (λ i. (c.type_inv.image i).fits)) none ∙ sym (ap (sealed_all c.args.kind) gathered);
     }

@@ -2,6 +2,7 @@ use Rattle.std.proofs.Common.{◌≡◌, rules, None, vec_items, ap, ◌∙◌, 
 use Rattle.questions.specs.Questions.{first_no}
 use Rattle.blocks.specs.Kinds.{kind_byte}
 use Rattle.blocks.specs.Layout.{sealed}
+use Rattle.blocks.proofs.Bytes.{bytes_from}
 use Rattle.images.specs.Images.{blocks_for, filled_to, read_back, sealed_all, sizes}
 use Rattle.images.proofs.ReadsBack.{reads_back_all}
 use Rattle.images.proofs.SealedFrom.{sealed_more}
@@ -28,4 +29,4 @@ returns-clause-back c =
     let bytes = c.args.bytes.now in
     let passes : first_no (sizes kind (blocks_for bytes)) ≡ None = search rules in
     let whole : vec_items c.loop-place.image ≡ sealed_all kind bytes = search rules in
-    ap (read_back kind) whole ∙ reads_back_all kind bytes (λ i. (c.type_inv.bytes i).fits) passes
+    ap (read_back kind) whole ∙ reads_back_all kind bytes (bytes_from bytes (λ i. (c.type_inv.bytes i).fits)) passes
