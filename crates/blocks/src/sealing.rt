@@ -11,7 +11,8 @@ use super::layout::{BLOCK, COVERED, EDITION, HEADER, PAYLOAD};
 use super::refusals::SealRefusal;
 use questions::ask;
 
-// Seals a payload under a kind and a number; a refusal leaves the target as it was.
+// Seals a payload under a kind and a number; a refusal leaves the target as it was. The kind is a byte, since that it is
+// known is the first question.
 pub fn seal(kind: u8, number: u16, payload: &[u8], target: &mut [u8]) -> Result<(), SealRefusal>
     ensures answers { result ≡ answered (asks kind payload.now target.old) tt }
     ensures after { target.new ≡ held_after (asks kind payload.now target.old) (sealed kind number payload.now) target.old }

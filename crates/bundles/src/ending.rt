@@ -20,6 +20,7 @@ impl Coded<10> for Ending {
 
     ghost encoded = { encoded_ending };
 
+    // Every byte has a name, since a rest pattern that lends them is not proved.
     fn decode(bytes: &[u8; 10]) -> Option<Ending> {
         match *bytes {
             [0, 0, 3, 0, 0, a, b, c, d, 0] => Some(Ending::Call(Target::decode(&[a, b, c, d])?)),

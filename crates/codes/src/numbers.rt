@@ -4,6 +4,7 @@ ghost use Rattle.codes.specs.Bits.{bit, bits};
 ghost use Rattle.std.specs.List.{slice_get};
 
 // A type whose values have numbers of their own: what a number stands for has that number, and each value comes back from its own.
+// Each impl has its own table: no macro or derive of this repository may write one.
 pub trait Numbered: Copy {
     // What a number stands for.
     ghost numbered: { ℕ → Option Self };

@@ -4,7 +4,7 @@ ghost use Rattle.commands.specs.Verbs.{kind_word};
 
 use blocks::kinds::Kind;
 
-// The kind that a word names.
+// The kind that a word names. (`FromStr` would have to stand with `Kind`, which knows nothing of commands.)
 pub fn kind_named(word: &str) -> Option<Kind>
     ensures { result ≡ kind_word word.now }
 {

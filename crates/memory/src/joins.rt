@@ -16,7 +16,7 @@ pub struct Join<F, B> {
     pub back: B,
 }
 
-// Where an address of a join lies.
+// Where an address of a join lies. (An `Option<usize>` would call the front an absence.)
 enum Part {
     Front,
     // At this address of the back's own.

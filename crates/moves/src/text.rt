@@ -9,6 +9,7 @@ use super::side::SideMove;
 use codes::numbers::Numbered;
 use std::fmt;
 
+// A size has two words, so that no one `Display` could serve both.
 fn load_word(size: Size) -> &'static str
     ensures { result.now ≡ load_word size }
 {

@@ -23,6 +23,7 @@ fn named_at(
     Ok((written.as_str() == text).then_some(operation))
 }
 
+// A loop, since `find_map` could not pass on that memory ran out.
 fn named_by(heap: Global, number: u8, text: &str) -> Result<Option<Operation>, AllocError>
     ensures { IfOk result (NamedBy number text.now) }
 {

@@ -8,6 +8,7 @@ use std::alloc::AllocError;
 use std::error::Error;
 use std::fmt;
 
+// The error of a `Result`, so that `?` hands it on.
 #[derive(Clone, Copy, PartialEq, Eq, Debug)]
 pub enum Failure<R> {
     Refused(R),

@@ -3,7 +3,7 @@ ghost use Rattle.std.specs.Prelude.{◌≡◌, ◌≤◌, length};
 ghost use Rattle.stacks.specs.Changes.{few_words};
 ghost use Rattle.std.specs.List.{slice_get};
 
-// Words that go on, the top first.
+// Words that go on, the top first: by their number, so that they need no heap and are `Copy`.
 #[derive(Clone, Copy, Debug, PartialEq, Eq)]
 pub enum Few {
     Zero,

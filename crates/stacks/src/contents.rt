@@ -1,7 +1,7 @@
 use std::marker::Model;
 
 // A stack's words lie at the end of `cells` with the top at `top`, so that a push or a pop moves no other word. The
-// cells before `top` are 0, so that the words tell all that is here.
+// cells before `top` are 0, so that the words tell all that is here. (An `ArrayVec` would not be `Copy`.)
 #[derive(Clone, Copy, Debug, PartialEq, Eq)]
 pub struct Words {
     pub(crate) cells: [u32; 64],
