@@ -4,6 +4,7 @@ ghost use Rattle.drafts.specs.Faults.{fault_number, fault_question, fault_text};
 
 use super::draft::SlotFault;
 use questions::refusals::Refusal;
+use std::error::Error;
 use std::fmt;
 
 impl Refusal for SlotFault {
@@ -30,3 +31,5 @@ impl fmt::Display for SlotFault {
         self.show(f)
     }
 }
+
+impl Error for SlotFault {}

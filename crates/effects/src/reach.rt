@@ -17,6 +17,8 @@ pub struct Reach<'a> {
     pub own: &'a Words,
 }
 
+// An element that holds a model has no place of its own in an array, and has one in a slice.
+#[tactic(auto, using(crate::proofs::Stacks::held_at_lem))]
 pub fn stack(stacks: &[Stack; 4], number: StackNumber) -> &Stack
     ensures { result.now ≡ stack_at stacks.now (stack_number number) }
 {

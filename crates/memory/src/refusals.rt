@@ -3,6 +3,7 @@ ghost use Rattle.std.specs.Prelude.{Some};
 ghost use Rattle.memory.specs.Refusals.{memory_number, memory_question, memory_text, work_number, work_question, work_text};
 
 use questions::refusals::Refusal;
+use std::error::Error;
 use std::fmt;
 
 // Why a mark is not given, a byte not read or not written.
@@ -68,3 +69,7 @@ impl fmt::Display for WorkRefusal {
         self.show(f)
     }
 }
+
+impl Error for MemoryRefusal {}
+
+impl Error for WorkRefusal {}

@@ -2,6 +2,9 @@
 use Rattle.std.specs.Prelude.{ℕ, List, ◌++◌, codes, decimal}
 use Rattle.questions.specs.Refusals.{refusal_text}
 use Rattle.images.specs.Refusals.{image_number, image_question, image_text}
+use Rattle.images.specs.declared.refusals.ImageRefusal.{ImageRefusal}
+use Rattle.questions.specs.declared.failures.Failure.{Failure}
+use Rattle.questions.specs.declared.failures.Failure.TheVariants.{Refused, OutOfMemory}
 use Rattle.program.specs.declared.refusals.LoadRefusal.{LoadRefusal}
 use Rattle.program.specs.declared.refusals.LoadRefusal.TheVariants.{Image, Unlawful}
 
@@ -19,3 +22,8 @@ load_question (Unlawful bundle) = codes "Is every bundle lawful?"
 abbrev pub load_text : LoadRefusal → List ℕ
 load_text (Image refusal) = image_text refusal
 load_text (Unlawful bundle) = refusal_text 10 (codes "Is every bundle lawful?") ++ codes " (bundle " ++ decimal bundle ++ codes ")"
+
+-- what is wrong with an image is wrong with the program
+abbrev pub load_error : Failure ImageRefusal → Failure LoadRefusal
+load_error (Refused refusal) = Refused (Image refusal)
+load_error OutOfMemory = OutOfMemory

@@ -4,7 +4,7 @@ ghost use Rattle.program.specs.Loading.{loading as asks, program_of, unlawful, b
 ghost use Rattle.program.specs.Loads.{Loads, Decodes};
 
 use super::program::Program;
-use super::refusals::{LoadError, LoadRefusal};
+use super::refusals::{LoadError, LoadRefusal, load_error};
 use blocks::kinds::Kind;
 use bundles::bundle::Bundle;
 use codes::bytes::Coded;
@@ -18,9 +18,7 @@ impl Program {
     pub fn load(heap: Global, image: &[u8]) -> Result<Program, LoadError>
         ensures { Loads result image.now }
     {
-        let bytes = payloads(heap, Kind::Code, image).map_err(|failure| failure.map(
-            LoadRefusal::Image,
-        ))?;
+        let bytes = payloads(heap, Kind::Code, image).map_err(load_error)?;
         let bundles = decode_all(heap, &bytes)?;
         Ok(Program { bundles })
     }

@@ -1,8 +1,8 @@
 // Why a code image makes no program.
-ghost use Rattle.std.specs.Prelude.{Some};
-ghost use Rattle.program.specs.Refusals.{load_number, load_question, load_text};
+ghost use Rattle.std.specs.Prelude.{◌≡◌, Some};
+ghost use Rattle.program.specs.Refusals.{load_error, load_number, load_question, load_text};
 
-use images::refusals::ImageRefusal;
+use images::refusals::{ImageError, ImageRefusal};
 use questions::failures::Failure;
 use questions::refusals::Refusal;
 use std::error::Error;
@@ -53,3 +53,10 @@ impl Error for LoadRefusal {}
 
 // What can go wrong where a program is loaded.
 pub type LoadError = Failure<LoadRefusal>;
+
+// What is wrong with an image is wrong with the program. (A `From` between two failures of `questions` may not stand here.)
+pub fn load_error(error: ImageError) -> LoadError
+    ensures { result ≡ load_error error }
+{
+    error.map(LoadRefusal::Image)
+}

@@ -1,6 +1,7 @@
 -- When a condition holds. It looks at the number n on top and at the flags.
-use Rattle.std.specs.Prelude.{◌≡◌, ℕ, ◌-◌, ◌^◌, Bool, true, false, cond, not, ◌&&◌, ◌||◌, List, [], ◌∷◌, map, take, drop, pos, ◌==◌, int_lt}
+use Rattle.std.specs.Prelude.{◌≡◌, ℕ, ◌-◌, ◌^◌, Bool, true, false, cond, not, ◌&&◌, ◌||◌, List, map, take, drop, pos, ◌==◌, int_lt}
 use Rattle.words.specs.Words.{differ, signed}
+use Rattle.words.specs.Numbers.{conditions}
 use Rattle.words.specs.declared.condition.Condition.{Condition}
 use Rattle.words.specs.declared.condition.Condition.TheVariants.{True, Zero, Negative, Overflow, Below, Above, Less, Greater, False, NotZero, NotNegative, NoOverflow, NotBelow, NotAbove, NotLess, NotGreater}
 use Rattle.words.specs.declared.flags.Flags.{Flags}
@@ -36,7 +37,7 @@ holds NotGreater s = s.zero || differ s.negative s.flags.overflow
 
 -- the conditions in the order of their numbers, 0 to 15
 abbrev pub numbered : List Condition
-numbered = True ∷ Zero ∷ Negative ∷ Overflow ∷ Below ∷ Above ∷ Less ∷ Greater ∷ False ∷ NotZero ∷ NotNegative ∷ NoOverflow ∷ NotBelow ∷ NotAbove ∷ NotLess ∷ NotGreater ∷ []
+numbered = conditions
 
 -- the condition whose number is 8 more or 8 less
 abbrev pub opposite : Condition → Condition

@@ -1,5 +1,5 @@
 // The sixteen conditions, in the order of their numbers.
-ghost use Rattle.std.specs.Prelude.{Some};
+ghost use Rattle.std.specs.Prelude.{◌≡◌, Some};
 ghost use Rattle.words.specs.Numbers.{condition_number, condition_word, conditions};
 ghost use Rattle.std.specs.List.{slice_get};
 
@@ -60,12 +60,12 @@ impl Numbered for Condition {
     }
 }
 
-// As people write it, without the mark before it.
-impl fmt::Display for Condition {
-    ghost output = { λ condition. Some (condition_word condition) };
-
-    fn fmt<W: fmt::Write>(&self, f: &mut fmt::Formatter<W>) -> fmt::Result {
-        f.write_str(match self {
+impl Condition {
+    // As people write it, without the mark before it.
+    pub fn word(self) -> &'static str
+        ensures { result.now ≡ condition_word self }
+    {
+        match self {
             Condition::True => "t",
             Condition::Zero => "0=",
             Condition::Negative => "0<",
@@ -82,6 +82,14 @@ impl fmt::Display for Condition {
             Condition::NotAbove => "u<=",
             Condition::NotLess => ">=",
             Condition::NotGreater => "<=",
-        })
+        }
+    }
+}
+
+impl fmt::Display for Condition {
+    ghost output = { λ condition. Some (condition_word condition) };
+
+    fn fmt<W: fmt::Write>(&self, f: &mut fmt::Formatter<W>) -> fmt::Result {
+        f.write_str(self.word())
     }
 }
