@@ -14,13 +14,13 @@ pub(super) fn run(
     let image = files::read(rt, path)?;
     let mut book = Book::open(rt.alloc(), &image)?;
     for at in address..address.saturating_add(count) {
-        byte(rt, &mut book, at)?;
+        print_byte(rt, &mut book, at)?;
     }
     Ok(())
 }
 
 // A byte with its mark, of any memory; what is refused ends the command.
-fn byte<M: Memory>(rt: &HostRuntime, memory: &mut M, address: usize) -> Result<(), Trouble> {
+fn print_byte<M: Memory>(rt: &HostRuntime, memory: &mut M, address: usize) -> Result<(), Trouble> {
     let refused = |refusal| Trouble::Memory { address, refusal };
     let mark = mark_at(memory, address).map_err(refused)?;
     let byte = read_at(memory, address).map_err(refused)?;

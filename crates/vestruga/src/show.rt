@@ -13,24 +13,28 @@ pub(super) fn run(rt: &HostRuntime, path: &str, payload: bool) -> Result<(), Tro
     let kind = kind_of(&image);
     count_blocks(kind, &image)?;
     let (blocks, _) = image.as_chunks::<BLOCK>();
-    for (place, bytes) in (0..u16::MAX).zip(blocks) {
-        block(rt, kind, place, bytes, payload)?;
+    for (place, bytes) in (0..=u16::MAX).zip(blocks) {
+        show_block(rt, kind, place, bytes, payload)?;
     }
     Ok(())
 }
 
-fn block(
+fn show_block(
     rt: &HostRuntime,
     kind: Kind,
     place: u16,
     bytes: &[u8; BLOCK],
     payload: bool,
 ) -> Result<(), Trouble> {
-    if let Some(header) = Header::read(bytes) {
-        let number = header.number;
-        let byte = header.kind;
-        let edition = header.edition;
-        let check = header.check;
+    if let Some(
+        Header {
+            kind: byte,
+            edition,
+            number,
+            check,
+        },
+    ) = Header::read(bytes)
+    {
         let name = kind_name(byte);
         print!(rt;
             "block {place}: number {number}, kind {byte} ({name}), edition {edition}, check {check:08X}: "
@@ -56,8 +60,7 @@ fn kind_name(byte: u8) -> &'static str {
 
 // Sixteen bytes a line, after the place of the first.
 fn dump(rt: &HostRuntime, bytes: &[u8]) -> Result<(), Trouble> {
-    for (line, row) in bytes.chunks(16).enumerate() {
-        let place = line.wrapping_mul(16);
+    for (place, row) in (0..bytes.len()).step_by(16).zip(bytes.chunks(16)) {
         let row = Row(row);
         println!(rt; "  {place:03}:{row}")?;
     }
