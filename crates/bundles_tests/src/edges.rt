@@ -5,13 +5,9 @@ use std::process::Abort;
 use std::test::Fail;
 
 fn check_lawful(rt: &impl Abort, bytes: [u8; 16]) -> Result<(), Fail> {
-    match Bundle::decode(&bytes) {
-        Some(bundle) => {
-            assert_eq!(rt; bundle.encode(), bytes);
-            Ok(())
-        },
-        None => Err(Fail::new("a lawful bundle was refused")),
-    }
+    let bundle = Bundle::decode(&bytes).ok_or("a lawful bundle was refused")?;
+    assert_eq!(rt; bundle.encode(), bytes);
+    Ok(())
 }
 
 fn check_unlawful(rt: &impl Abort, bytes: [u8; 16]) {

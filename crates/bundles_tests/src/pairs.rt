@@ -4,22 +4,25 @@ use codes::bytes::Coded;
 use codes::numbers::Numbered;
 use moves::moving::Move;
 use operations::operation::Operation;
+use std::process::Abort;
 
-// How many argument bytes are lawful beside an operation byte, and whether each of them comes back.
-fn lawful_arguments(number: u8) -> (u16, bool) {
-    let mut lawful: u16 = 0;
-    let mut back = true;
-    for argument in 0..=u8::MAX {
-        if let Some(operation) = Operation::decode(&[number, argument]) {
-            lawful = lawful.wrapping_add(1);
-            back = back && operation.encode() == [number, argument];
-        }
-    }
-    (lawful, back)
+// How many argument bytes are lawful beside an operation byte.
+fn lawful_arguments(number: u8) -> usize {
+    (0..=u8::MAX)
+        .filter(|argument| Operation::decode(&[number, *argument]).is_some())
+        .count()
+}
+
+// Whether each lawful one comes back.
+fn arguments_come_back(number: u8) -> bool {
+    (0..=u8::MAX).all(|argument| match Operation::decode(&[number, argument]) {
+        Some(operation) => operation.encode() == [number, argument],
+        None => true,
+    })
 }
 
 // nop 1; push and <# 256; or to umul 32; pick 28; pin 8; 17 to 50 one each; the rest none.
-fn expected_arguments(number: u8) -> u16 {
+fn expected_arguments(number: u8) -> usize {
     match number {
         0 => 1,
         1 | 2 => 256,
@@ -33,41 +36,47 @@ fn expected_arguments(number: u8) -> u16 {
 
 #[test]
 fn every_operation_with_every_argument(rt: HostRuntime) {
-    let mut lawful: u16 = 0;
+    let mut lawful: usize = 0;
     for number in 0..=u8::MAX {
-        let (found, back) = lawful_arguments(number);
+        let found = lawful_arguments(number);
         assert_eq!(rt; found, expected_arguments(number));
-        assert!(rt; back);
+        assert!(rt; arguments_come_back(number));
         lawful = lawful.wrapping_add(found);
     }
     assert_eq!(rt; lawful, 967);
 }
 
-// How many codes and selectors are lawful beside a value byte.
-fn lawful_moves(value: u8) -> (u16, bool) {
-    let mut lawful: u16 = 0;
-    let mut back = true;
+// How many selectors are lawful beside a code byte and a value byte.
+fn lawful_selectors(code: u8, value: u8) -> usize {
+    (0..=u8::MAX)
+        .filter(|selector| Move::decode(&[code, *selector, value]).is_some())
+        .count()
+}
+
+// Whether each lawful one comes back.
+fn selectors_come_back(code: u8, value: u8) -> bool {
+    (0..=u8::MAX).all(|selector| match Move::decode(&[code, selector, value]) {
+        Some(made) => made.encode() == [code, selector, value],
+        None => true,
+    })
+}
+
+// How many codes and selectors are lawful beside a value byte, each of which comes back.
+fn lawful_moves(rt: &impl Abort, value: u8) -> usize {
+    let mut lawful: usize = 0;
     for code in 0..=u8::MAX {
-        for selector in 0..=u8::MAX {
-            if let Some(made) = Move::decode(&[code, selector, value]) {
-                lawful = lawful.wrapping_add(1);
-                back = back && made.encode() == [code, selector, value];
-            }
-        }
+        assert!(rt; selectors_come_back(code, value));
+        lawful = lawful.wrapping_add(lawful_selectors(code, value));
     }
-    (lawful, back)
+    lawful
 }
 
 // With value 0: none, one offset, 4 x 56 loads, as many stores, 32 sets and 32 gets. With any other: one offset.
 #[test]
 fn every_code_with_every_selector(rt: HostRuntime) {
-    let (without, back) = lawful_moves(0);
-    assert_eq!(rt; without, 514);
-    assert!(rt; back);
+    assert_eq!(rt; lawful_moves(&rt, 0), 514);
     for value in [1, 127, 128, 255] {
-        let (with, back) = lawful_moves(value);
-        assert_eq!(rt; with, 1);
-        assert!(rt; back);
+        assert_eq!(rt; lawful_moves(&rt, value), 1);
     }
 }
 

@@ -8,14 +8,10 @@ fn check_text(
     bytes: [u8; 16],
     expected: &str,
 ) -> Result<(), Fail> {
-    match Bundle::read(&bytes) {
-        Some(bundle) => {
-            let text = bundle.to_string(rt.alloc())?;
-            assert_eq!(rt; text.as_str(), expected);
-            Ok(())
-        }
-        None => Err(Fail::new("a lawful bundle was refused")),
-    }
+    let bundle = Bundle::read(&bytes).ok_or("a lawful bundle was refused")?;
+    let text = bundle.to_string(rt.alloc())?;
+    assert_eq!(rt; text.as_str(), expected);
+    Ok(())
 }
 
 #[test]
