@@ -25,10 +25,7 @@ pub extern "C" fn vestruga_check_word(bytes: &[u8]) -> u32
 pub extern "C" fn vestruga_load(heap: Global, image: &[u8]) -> u32
     ensures { result ≤ 63488 }
 {
-    match Program::load(heap, image) {
-        Ok(program) => program.end() / 8,
-        Err(_) => 0,
-    }
+    Program::load(heap, image).map_or(0, |program| program.end() / 8)
 }
 
 // The sum of bytes read all over a book with work behind it; 0 where the image makes no book.

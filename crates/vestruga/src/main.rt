@@ -24,10 +24,7 @@ fn main(rt: HostRuntime) -> anyhow::Result<ExitCode> {
         script(&rt)?;
         return Ok(ExitCode::SUCCESS);
     }
-    let words: Vec<&str> = arguments
-        .iter()
-        .map(|argument| argument.as_str())
-        .collect(rt.alloc())?;
+    let words: Vec<&str> = arguments.iter().map(String::as_str).collect(rt.alloc())?;
     match run(&rt, &words) {
         Ok(()) => Ok(ExitCode::SUCCESS),
         Err(trouble) => {
