@@ -3,22 +3,18 @@ use super::files;
 use super::troubles::Trouble;
 use blocks::headers::Header;
 use blocks::kinds::Kind;
-use blocks::layout::BLOCK;
+use blocks::layout::{BLOCK, payload};
 use blocks::opening::open;
-use images::checking::kind_of;
-use images::refusals::ImageRefusal;
+use images::checking::{count_blocks, kind_of};
 use std::fmt;
 
-pub(super) fn run(rt: &HostRuntime, path: &str, payload: bool) -> Result<(), Trouble> {
+pub(super) fn run(rt: &HostRuntime, path: &str, with_payload: bool) -> Result<(), Trouble> {
     let image = files::read(rt, path)?;
     let kind = kind_of(&image);
-    let blocks = image.len() / BLOCK;
-    if image.len() % BLOCK != 0 || blocks < 1 || blocks > kind.most_blocks() {
-        return Err(Trouble::Refused(ImageRefusal::Length));
-    }
-    for place in 0..blocks {
-        let from = BLOCK * place;
-        block(rt, kind, place as u16, &image[from..from + BLOCK], payload)?;
+    count_blocks(kind, &image)?;
+    let (blocks, _) = image.as_chunks::<BLOCK>();
+    for (place, bytes) in blocks.iter().enumerate() {
+        block(rt, kind, place as u16, bytes, with_payload)?;
     }
     Ok(())
 }
@@ -27,8 +23,8 @@ fn block(
     rt: &HostRuntime,
     kind: Kind,
     place: u16,
-    bytes: &[u8],
-    payload: bool,
+    bytes: &[u8; BLOCK],
+    with_payload: bool,
 ) -> Result<(), Trouble> {
     if let Some(header) = Header::read(bytes) {
         let number = header.number;
@@ -44,17 +40,17 @@ fn block(
         Ok(_) => println!(rt; "sound")?,
         Err(refusal) => println!(rt; "refused, {refusal}")?,
     }
-    if payload && bytes.len() == BLOCK {
-        dump(rt, &bytes[12..508])?;
+    if with_payload {
+        dump(rt, payload(bytes))?;
     }
     Ok(())
 }
 
 fn kind_name(byte: u8) -> &'static str {
-    match Kind::named(byte) {
-        Some(Kind::Code) => "code",
-        Some(Kind::Table) => "table",
-        None => "unknown",
+    match Kind::try_from(byte) {
+        Ok(Kind::Code) => "code",
+        Ok(Kind::Table) => "table",
+        Err(_) => "unknown",
     }
 }
 
