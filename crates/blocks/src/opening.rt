@@ -1,5 +1,5 @@
 // A block opened: its header asked about, the rest handed on as payload.
-ghost use Rattle.std.specs.Prelude.{◌≡◌, length, IfOk};
+ghost use Rattle.std.specs.Prelude.{◌≡◌, IfOk};
 ghost use Rattle.blocks.specs.Asking.{opened, lent};
 ghost use Rattle.blocks.specs.Kinds.{kind_byte};
 ghost use Rattle.blocks.specs.Layout.{sealed, all_zero};

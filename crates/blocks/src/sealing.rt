@@ -1,5 +1,5 @@
 // A payload sealed into a block.
-ghost use Rattle.std.specs.Prelude.{◌≡◌, ◌≤◌, ◌++◌, length, drop, Ok};
+ghost use Rattle.std.specs.Prelude.{◌≡◌, length, Ok};
 ghost use Rattle.questions.specs.Questions.{answered, held_after};
 ghost use Rattle.blocks.specs.Asking.{sealing as asks, opened};
 ghost use Rattle.blocks.specs.Kinds.{kind_byte};

@@ -1,7 +1,7 @@
 // Single blocks: the check word, sealing, opening.
 use blocks::check::check_word;
 use blocks::headers::Header;
-use blocks::kinds::Kind;
+use blocks::kinds::{Kind, UnknownKind};
 use blocks::layout::{BLOCK, PAYLOAD};
 use blocks::opening::open;
 use blocks::refusals::{BlockRefusal, SealRefusal};
@@ -111,6 +111,13 @@ fn refusals_have_their_numbers(rt: HostRuntime) {
     assert_eq!(rt; BlockRefusal::WrongPlace.number(), 7);
     assert_eq!(rt; BlockRefusal::NotZero.number(), 8);
     assert_eq!(rt; BlockRefusal::WrongCheck.number(), 9);
+}
+
+#[test]
+fn bytes_are_taken_for_kinds(rt: HostRuntime) {
+    assert_eq!(rt; Kind::try_from(1), Ok(Kind::Code));
+    assert_eq!(rt; Kind::try_from(u8::from(Kind::Table)), Ok(Kind::Table));
+    assert_eq!(rt; Kind::try_from(3), Err(UnknownKind { byte: 3 }));
 }
 
 #[test]

@@ -81,3 +81,19 @@ fn the_first_unsound_block_is_named(rt: HostRuntime) -> Result<(), Fail> {
     assert_eq!(rt; ImageRefusal::Length.number(), 4);
     Ok(())
 }
+
+#[test]
+fn refusals_are_shown(rt: HostRuntime) -> Result<(), Fail> {
+    let heap = rt.alloc();
+    let refusal = ImageRefusal::Block {
+        place: 3,
+        refusal: BlockRefusal::WrongCheck,
+    };
+    let refused = ImageError::Refused(refusal);
+    let shown = format!(in heap; "{refused}")?;
+    assert_eq!(rt; shown.as_str(), "9: Is the check word right? (block 3)");
+    let lacking = ImageError::OutOfMemory;
+    let shown = format!(in heap; "{lacking}")?;
+    assert_eq!(rt; shown.as_str(), "there is not memory enough");
+    Ok(())
+}

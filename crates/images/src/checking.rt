@@ -1,5 +1,5 @@
 // An image accepted, or refused at the first no.
-ghost use Rattle.std.specs.Prelude.{◌≡◌, ◌+◌, ◌*◌, ◌/◌, ◌<◌, ◌≤◌, length};
+ghost use Rattle.std.specs.Prelude.{◌≡◌};
 ghost use Rattle.questions.specs.Questions.{answered, first_no};
 ghost use Rattle.blocks.specs.Asking.{opening};
 ghost use Rattle.blocks.specs.Kinds.{kind_byte};

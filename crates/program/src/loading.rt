@@ -1,6 +1,6 @@
 // A code image made a program, or refused at the first no.
 ghost use Rattle.std.specs.Prelude.{◌/◌, ◌≤◌, length, IfOk, vec_len};
-ghost use Rattle.program.specs.Loading.{loading as asks, program_of, unlawful, bundles_of};
+ghost use Rattle.program.specs.Loading.{unlawful, bundles_of};
 ghost use Rattle.program.specs.Loads.{Loads, Decodes};
 
 use super::program::Program;

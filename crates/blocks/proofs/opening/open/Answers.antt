@@ -1,4 +1,4 @@
-use Rattle.std.proofs.Common.{◌≡◌, rules, None, Some, sym, ap, ◌∙◌}
+use Rattle.std.proofs.Common.{refl, ◌≡◌, rules, None, Some, sym, ap, ◌∙◌}
 use Rattle.questions.specs.Questions.{answered}
 use Rattle.questions.proofs.Answered.{passes, stops}
 use Rattle.blocks.specs.Asking.{opening}
@@ -8,6 +8,16 @@ use Rattle.blocks.proofs.Asked.{sound, whole}
 use Rattle.blocks.proofs.Bytes.{bytes_from}
 use Rattle.blocks.proofs.OnlySealed.{only-sealed}
 use Rattle.blocks.proofs.opening.open.Goals as goal
+
+pub returns-in_err-ask-4-clause-answers : goal.returns-in_err-ask-4-clause-answers
+returns-in_err-ask-4-clause-answers c =
+    let asked = whole _ _ _ _ c.in_ok-header.header c.read.ensures (sym c.ok_or.ensures.value ∙ c.in_ok-header.was) c.from.result _ c.all_zero.result c.from.ensures c.all_zero.ensures refl in
+    let no : opening (kind_byte c.args.kind) c.args.place c.args.bytes.now ≡ Some c.in_err-ask-4.field-0.0 =
+    asked ∙ passes _ _ _ _ (sym c.ask.ensures ∙ c.in_ok-ask.was)
+    ∙ passes _ _ _ _ (sym c.ask-2.ensures ∙ c.in_ok-ask-2.was)
+    ∙ passes _ _ _ _ (sym c.ask-3.ensures ∙ c.in_ok-ask-3.was)
+    ∙ stops _ _ _ _ (sym c.ask-4.ensures ∙ c.in_err-ask-4.was) in
+    search rules
 
 pub returns-in_err-ask-5-clause-answers : goal.returns-in_err-ask-5-clause-answers
 returns-in_err-ask-5-clause-answers c =
