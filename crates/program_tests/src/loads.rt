@@ -2,6 +2,7 @@
 use blocks::kinds::Kind;
 use blocks::layout::BLOCK;
 use blocks::refusals::BlockRefusal;
+use codes::bytes::Coded;
 use images::refusals::ImageRefusal;
 use images::sealing::seal_all;
 use program::program::Program;

@@ -3,6 +3,7 @@ use codes::numbers::Numbered;
 use drafts::draft::Draft;
 use operations::operation::Operation;
 use operations::places::StackNumber;
+use questions::refusals::Refusal;
 use slots::latches::Latches;
 use slots::work::work;
 use stacks::changes::{Change, Few};
