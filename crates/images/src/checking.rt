@@ -9,7 +9,7 @@ use super::refusals::ImageRefusal;
 use blocks::kinds::Kind;
 use blocks::layout::BLOCK;
 use blocks::opening::open;
-use questions::ask;
+use questions::{ask, ask_all};
 
 // The kind that an image is taken for, by its first byte.
 pub fn kind_of(image: &[u8]) -> Kind
@@ -36,8 +36,10 @@ pub fn count_blocks(kind: Kind, image: &[u8]) -> Result<usize, ImageRefusal>
 pub(crate) fn ask_size(kind: Kind, blocks: usize) -> Result<(), ImageRefusal>
     ensures { result ≡ answered (first_no (sizes kind blocks)) tt }
 {
-    ask(1 <= blocks, ImageRefusal::Length)?;
-    ask(blocks <= kind.most_blocks(), ImageRefusal::Length)
+    ask_all(&[
+        (1 <= blocks, ImageRefusal::Length),
+        (blocks <= kind.most_blocks(), ImageRefusal::Length),
+    ])
 }
 
 // How many blocks an image has that is accepted.

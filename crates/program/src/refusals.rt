@@ -1,5 +1,6 @@
 // Why a code image makes no program.
 ghost use Rattle.std.specs.Prelude.{◌≡◌, Some};
+ghost use Rattle.program.specs.declared.refusals.LoadRefusal.TheVariants.{Image};
 ghost use Rattle.program.specs.Refusals.{load_error, load_number, load_question, load_text};
 
 use images::refusals::{ImageError, ImageRefusal};
@@ -51,6 +52,14 @@ impl fmt::Display for LoadRefusal {
 
 impl Error for LoadRefusal {}
 
+impl From<ImageRefusal> for LoadRefusal {
+    ghost from_gives = { λ refusal load. load ≡ Image refusal };
+
+    fn from(refusal: ImageRefusal) -> LoadRefusal {
+        LoadRefusal::Image(refusal)
+    }
+}
+
 // What can go wrong where a program is loaded.
 pub type LoadError = Failure<LoadRefusal>;
 
@@ -58,5 +67,5 @@ pub type LoadError = Failure<LoadRefusal>;
 pub fn load_error(error: ImageError) -> LoadError
     ensures { result ≡ load_error error }
 {
-    error.map(LoadRefusal::Image)
+    error.map_into()
 }

@@ -14,3 +14,13 @@ pub fn ask<R: Drop>(holds: bool, refusal: R) -> Result<(), R>
 {
     if holds { Ok(()) } else { Err(refusal) }
 }
+
+// Asks each question of a list, a test beside the refusal that its no stands for: the first no is the answer.
+pub fn ask_all<R: Copy>(questions: &[(bool, R)]) -> Result<(), R>
+    ensures { result ≡ answered (first_no questions.now) tt }
+{
+    for (holds, refusal) in questions {
+        ask(*holds, *refusal)?;
+    }
+    Ok(())
+}
