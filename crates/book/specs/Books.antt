@@ -1,5 +1,5 @@
 -- A read-only image of table blocks as a memory.
-use Rattle.std.specs.Prelude.{◌≡◌, ℕ, ◌*◌, ◌/◌, ◌%◌, ◌<◌, List, map, length, take, drop, None, Ok, Err, Option, Result, IfSome, option_map, slice_index, slice_index_or}
+use Rattle.std.specs.Prelude.{◌≡◌, ℕ, ◌*◌, ◌/◌, ◌%◌, ◌<◌, Bool, false, List, map, length, take, drop, is_ok, Ok, Err, Option, Result, IfSome, option_map, slice_index, slice_index_or}
 use Rattle.std.specs.Result.{result_ok}
 use Rattle.std.specs.Borrow.{Bor}
 use Rattle.std.specs.List.{range_with_len}
@@ -44,10 +44,14 @@ book_cells image = map (book_cell image) (range_with_len 0 (book_size image))
 abbrev pub payload_at : List ℕ → ℕ → Option (List ℕ)
 payload_at image place = result_ok (table_at image place)
 
--- these are the payloads of the blocks of an image, in order
-abbrev pub Shelves : List ℕ → List (Option (Bor (List ℕ))) → Type 0
-Shelves image payloads = (length payloads ≡ blocks_in image)
-    × ((place : ℕ) → place < blocks_in image → option_map (λ payload. payload.now) (slice_index_or payloads place None) ≡ payload_at image place)
+-- is that block sound?
+abbrev pub sound_at : List ℕ → ℕ → Bool
+sound_at image place = is_ok (table_at image place)
+
+-- these flags say of each block of an image, in order, whether it is sound
+abbrev pub Sounds : List ℕ → List Bool → Type 0
+Sounds image flags = (length flags ≡ blocks_in image)
+    × ((place : ℕ) → place < blocks_in image → slice_index_or flags place false ≡ sound_at image place)
 
 -- this is the payload of the block of an address
 pub record IsShelvedAt (image : List ℕ) (at : ℕ) (payload : Option (Bor (List ℕ))) : Type 0 where

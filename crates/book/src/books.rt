@@ -1,18 +1,18 @@
 // An image of table blocks as a memory: its payloads, kept where a block is sound and spoiled elsewhere.
-ghost use Rattle.std.specs.Prelude.{◌≡◌, ◌/◌, ◌<◌, ◌≤◌, IfOk, MatchResult, option_map, refl};
-ghost use Rattle.std.specs.Result.{result_ok};
+ghost use Rattle.std.specs.Prelude.{◌≡◌, ◌/◌, ◌<◌, ◌≤◌, IfOk, MatchResult, is_ok, refl};
 ghost use Rattle.std.proofs.Common.{ap, ◌∙◌};
 ghost use Rattle.blocks.specs.Asking.{opened};
 ghost use Rattle.blocks.specs.Kinds.{kind_byte};
+ghost use Rattle.blocks.specs.Layout.{payload_of};
 ghost use Rattle.blocks.specs.declared.kinds.Kind.TheVariants.{Table};
 ghost use Rattle.images.specs.Images.{blocks_in};
 ghost use Rattle.memory.specs.Cells.{marks_of};
 ghost use Rattle.questions.specs.Failures.{Makes};
-ghost use Rattle.book.specs.Books.{book_asks, book_cells, Shelves, IsShelvedAt};
+ghost use Rattle.book.specs.Books.{block_at, book_asks, book_cells, sound_at, Sounds, IsShelvedAt};
 ghost use Rattle.book.specs.LawfulBooks.{book_lawful};
 
 use blocks::kinds::Kind;
-use blocks::layout::{BLOCK, PAYLOAD};
+use blocks::layout::{BLOCK, COVERED, HEADER, PAYLOAD};
 use blocks::opening::open as open_block;
 use images::checking::count_blocks;
 use images::refusals::ImageError;
@@ -24,30 +24,38 @@ use std::alloc::{AllocError, Global};
 #[derive(Drop)]
 pub struct Book<'a> {
     image: &'a [u8],
-    // The payload of each block, none where the block is not sound: decided once.
-    payloads: Vec<Option<&'a [u8]>>,
+    // Whether each block is sound: decided once. (Its payload, or none, would take 24 bytes where a flag takes one.)
+    sound: Vec<bool>,
     ghost few: { blocks_in image.now ≤ 8192 },
-    ghost decided: { Shelves image.now payloads.items },
+    ghost decided: { Sounds image.now sound.items },
 }
 
-// The payload of the block at a place, if it opens as a table's there.
-fn payload_of(place: usize, block: &[u8]) -> Option<&[u8]>
-    ensures { place < 65536 → option_map (λ payload. payload.now) result ≡ result_ok (opened (kind_byte Table) place block.now) }
+// Whether the block at a place opens as a table's there.
+fn is_sound(place: usize, block: &[u8]) -> bool
+    ensures { place < 65536 → result ≡ is_ok (opened (kind_byte Table) place block.now) }
 {
-    let place = u16::try_from(place).ok()?;
-    open_block(block, Kind::Table, place).ok()
+    u16::try_from(place).is_ok_and(|place| open_block(block, Kind::Table, place).is_ok())
 }
 
-// The payload of each block of an image.
-fn payloads<'a>(heap: Global, image: &'a [u8]) -> Result<Vec<Option<&'a [u8]>>, AllocError>
+// Whether each block of an image is sound.
+fn soundness(heap: Global, image: &[u8]) -> Result<Vec<bool>, AllocError>
     requires { blocks_in image.now ≤ 8192 }
-    ensures { IfOk result (λ payloads. Shelves image.now payloads.items) }
+    ensures { IfOk result (λ sound. Sounds image.now sound.items) }
 {
     image
         .chunks_exact(BLOCK)
         .enumerate()
-        .map(|(place, block)| payload_of(place, block))
+        .map(|(place, block)| is_sound(place, block))
         .collect(heap)
+}
+
+// The payload of the block at a place.
+fn payload_in(image: &[u8], place: usize) -> &[u8]
+    requires { place < blocks_in image.now }
+    ensures { result.now ≡ payload_of (block_at image.now place) }
+{
+    let block = &image[BLOCK * place..BLOCK * place + BLOCK];
+    &block[HEADER..COVERED]
 }
 
 impl<'a> Book<'a> {
@@ -56,20 +64,31 @@ impl<'a> Book<'a> {
         ensures { Makes result (book_asks image.now) (book_asks image.now) (λ book. book.image.now ≡ image.now) }
     {
         count_blocks(Kind::Table, image)?;
-        let payloads = payloads(heap, image)?;
-        Ok(Book { image, payloads })
+        let sound = soundness(heap, image)?;
+        Ok(Book { image, sound })
+    }
+
+    // Whether the block of an address is sound.
+    fn sound_of(&self, at: usize) -> Result<bool, MemoryRefusal>
+        ensures { MatchResult result (λ sound. (at / 496 < blocks_in self.now.image.now) × (sound ≡ sound_at self.now.image.now (at / 496))) (λ refusal. (blocks_in self.now.image.now ≤ at / 496) × (refusal ≡ MemoryRefusal.OutOfRange)) }
+    {
+        let sound = self
+            .sound
+            .get(at / PAYLOAD)
+            .ok_or(MemoryRefusal::OutOfRange)?;
+        Ok(*sound)
     }
 
     // The payload of the block of an address, none where it is spoiled.
-    #[tactic(auto, using(crate::proofs::Shelved::payload_long))]
+    #[tactic(auto, using(crate::proofs::Shelved::shelved_at, crate::proofs::Shelved::none_at))]
     fn payload(&self, at: usize) -> Result<Option<&'a [u8]>, MemoryRefusal>
         ensures { MatchResult result (IsShelvedAt self.now.image.now at) (λ refusal. (blocks_in self.now.image.now ≤ at / 496) × (refusal ≡ MemoryRefusal.OutOfRange)) }
     {
-        let payload = self
-            .payloads
-            .get(at / PAYLOAD)
-            .ok_or(MemoryRefusal::OutOfRange)?;
-        Ok(*payload)
+        if self.sound_of(at)? {
+            Ok(Some(payload_in(self.image, at / PAYLOAD)))
+        } else {
+            Ok(None)
+        }
     }
 }
 
