@@ -2,6 +2,7 @@
 ghost use Rattle.std.specs.Prelude.{◌≡◌};
 ghost use Rattle.drafts.specs.Shown.{faulty as faulty_by, plain, shown};
 ghost use Rattle.stacks.specs.Changes.{changed as changed_by};
+ghost use Rattle.stacks.specs.Held.{held};
 
 use operations::kinds::Multiply;
 use stacks::changes::{Change, Few};
@@ -38,7 +39,7 @@ pub enum SlotFault {
 impl Draft {
     // A change to the words and nothing else.
     pub fn changed(own: &Stack, change: Change) -> Draft
-        ensures { shown result own.now ≡ plain own.now (changed_by change own.now.words) }
+        ensures { shown result (held own.now) ≡ plain (held own.now) (changed_by change (held own.now).words) }
     {
         Draft {
             change,
@@ -53,14 +54,14 @@ impl Draft {
 
     // The draft of a slot that has not worked: its stack as it is.
     pub fn untouched(own: &Stack) -> Draft
-        ensures { shown result own.now ≡ plain own.now own.now.words }
+        ensures { shown result (held own.now) ≡ plain (held own.now) (held own.now).words }
     {
         Draft::changed(own, Change::Replace(0, Few::Zero))
     }
 
     // The draft of a slot that has a fault: its stack as it is, and nothing else.
     pub fn faulty(own: &Stack, fault: SlotFault) -> Draft
-        ensures { shown result own.now ≡ faulty_by own.now fault }
+        ensures { shown result (held own.now) ≡ faulty_by (held own.now) fault }
     {
         Draft {
             fault: Some(fault),

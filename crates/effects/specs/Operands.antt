@@ -10,13 +10,13 @@ use Rattle.operations.specs.declared.operands.Source.TheVariants.{Own, Moved, Ot
 use Rattle.operations.specs.declared.places.Near.{Near}
 use Rattle.operations.specs.declared.places.Near.TheVariants.{S0, S1, S2, S3}
 use Rattle.operations.specs.declared.places.StackNumber.{StackNumber}
-use Rattle.stacks.specs.Stacks.{stack_at}
+use Rattle.stacks.specs.Held.{held_at}
 use Rattle.stacks.specs.declared.stack.Stack.{Stack}
 use Rattle.std.specs.List.{slice_get}
 
 -- the words of each of the four stacks
 abbrev pub words_of : List Stack → StackNumber → List ℕ
-words_of stacks n = (stack_at stacks (stack_number n)).words
+words_of stacks n = (held_at stacks (stack_number n)).words
 
 -- a word on top of others, if there is one
 abbrev pub onto : Option ℕ → List ℕ → Option (List ℕ)

@@ -2,6 +2,7 @@
 ghost use Rattle.std.specs.Prelude.{◌≡◌, [], ◌∷◌};
 ghost use Rattle.effects.specs.Operands.{placed, moved, words_of};
 ghost use Rattle.effects.specs.Reading.{read_change};
+ghost use Rattle.stacks.specs.Words.{words_in};
 
 use super::reach::Reach;
 use codes::numbers::Numbered;
@@ -12,7 +13,7 @@ use stacks::contents::Words;
 
 // The word at a place moved to the top.
 fn move_up(own: &Words, near: Near) -> Option<Change>
-    ensures { read_change result own.now ≡ moved near own.now }
+    ensures { read_change result (words_in own.now) ≡ moved near (words_in own.now) }
 {
     match (near, own.as_slice()) {
         (Near::S0, &[_, ..]) => Some(Change::Replace(0, Few::Zero)),
@@ -26,7 +27,7 @@ fn move_up(own: &Words, near: Near) -> Option<Change>
 impl Reach<'_> {
     // The change that a source makes of its stack when it is picked.
     pub fn source_change(&self, source: Source) -> Option<Change>
-        ensures { read_change result self.now.own.now ≡ placed source self.now.own.now (words_of self.now.stacks.now) }
+        ensures { read_change result (words_in self.now.own.now) ≡ placed source (words_in self.now.own.now) (words_of self.now.stacks.now) }
     {
         let copied = match source {
             Source::Own(place) => self.own.get(usize::from(place.number())),

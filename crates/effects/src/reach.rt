@@ -3,7 +3,7 @@
 ghost use Rattle.std.specs.Prelude.{◌≡◌};
 ghost use Rattle.effects.specs.Operands.{words_of};
 ghost use Rattle.operations.specs.Places.{near_number, stack_number};
-ghost use Rattle.stacks.specs.Stacks.{stack_at};
+ghost use Rattle.stacks.specs.Held.{held, held_at};
 ghost use Rattle.std.specs.List.{slice_get};
 
 use codes::numbers::Numbered;
@@ -17,12 +17,10 @@ pub struct Reach<'a> {
     pub own: &'a Words,
 }
 
-// An element that holds a model has no place of its own in an array, and has one in a slice.
 #[tactic(auto, using(crate::proofs::Stacks::held_at_lem))]
 pub fn stack(stacks: &[Stack; 4], number: StackNumber) -> &Stack
-    ensures { result.now ≡ stack_at stacks.now (stack_number number) }
+    ensures { held result.now ≡ held_at stacks.now (stack_number number) }
 {
-    let stacks = &stacks[..];
     &stacks[usize::from(number.number())]
 }
 

@@ -4,6 +4,7 @@ ghost use Rattle.effects.specs.Copies.{Copies};
 ghost use Rattle.effects.specs.Operands.{effect, moved, top_two, top_two_of, words_of};
 ghost use Rattle.effects.specs.Reading.{read_two, under_words};
 ghost use Rattle.stacks.specs.Changes.{few_words};
+ghost use Rattle.stacks.specs.Words.{words_in};
 
 use super::reach::Reach;
 use codes::numbers::Numbered;
@@ -58,7 +59,7 @@ pub struct Two {
 
 // The top, below a word from elsewhere.
 fn below(own: &Words, n2: u32) -> Option<Two>
-    ensures { read_two result own.now ≡ top_two (n2 ∷ own.now) }
+    ensures { read_two result (words_in own.now) ≡ top_two (n2 ∷ words_in own.now) }
 {
     own.get(0).map(|n1| Two {
         n1,
@@ -69,7 +70,7 @@ fn below(own: &Words, n2: u32) -> Option<Two>
 }
 
 fn moved_two(own: &Words, near: Near) -> Option<Two>
-    ensures { read_two result own.now ≡ top_two_of (moved near own.now) }
+    ensures { read_two result (words_in own.now) ≡ top_two_of (moved near (words_in own.now)) }
 {
     let (n1, n2, off, under) = match (near, own.as_slice()) {
         (Near::S0, &[n2, n1, ..]) => (n1, n2, 2, Under::Nothing),
@@ -83,7 +84,7 @@ fn moved_two(own: &Words, near: Near) -> Option<Two>
 
 impl Reach<'_> {
     pub fn operand_two(&self, operand: Operand) -> Option<Two>
-        ensures value { read_two result self.now.own.now ≡ top_two_of (effect operand self.now.own.now (words_of self.now.stacks.now)) }
+        ensures value { read_two result (words_in self.now.own.now) ≡ top_two_of (effect operand (words_in self.now.own.now) (words_of self.now.stacks.now)) }
         ensures copies { Copies }
     {
         let n2 = match operand {

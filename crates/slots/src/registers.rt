@@ -3,6 +3,7 @@ ghost use Rattle.std.specs.Prelude.{◌≡◌, drop};
 ghost use Rattle.slots.specs.Left.{left};
 ghost use Rattle.drafts.specs.Shown.{shown};
 ghost use Rattle.slots.specs.Slots.{counting, fetching, jumping, paired, special};
+ghost use Rattle.stacks.specs.Held.{held};
 
 use super::slot::Slot;
 use super::tops::push;
@@ -16,7 +17,7 @@ use words::flags::Flags;
 use words::pair::Pair;
 
 fn store_ip(own: &Stack) -> Option<Draft>
-    ensures { left result own.now ≡ jumping own.now own.now.words }
+    ensures { left result (held own.now) ≡ jumping (held own.now) (held own.now).words }
 {
     let top = own.words.get(0)?;
     Some(Draft {
@@ -26,7 +27,7 @@ fn store_ip(own: &Stack) -> Option<Draft>
 }
 
 fn store_count(own: &Stack) -> Option<Draft>
-    ensures { left result own.now ≡ counting own.now own.now.words }
+    ensures { left result (held own.now) ≡ counting (held own.now) (held own.now).words }
 {
     let top = own.words.get(0)?;
     Some(Draft {
@@ -37,7 +38,7 @@ fn store_count(own: &Stack) -> Option<Draft>
 
 // A number of 64 bits in the place of the first `off` words, its high word on top.
 fn put_pair(own: &Stack, off: usize, number: Accumulated) -> Draft
-    ensures { shown result own.now ≡ paired own.now (drop off own.now.words) number }
+    ensures { shown result (held own.now) ≡ paired (held own.now) (drop off (held own.now).words) number }
 {
     let pair = Pair::from(number.value);
     Draft {
@@ -53,7 +54,7 @@ fn put_pair(own: &Stack, off: usize, number: Accumulated) -> Draft
 
 impl Slot<'_> {
     pub fn access(&self, kind: Special) -> Option<Draft>
-        ensures { left result self.now.own.now ≡ special kind self.now.own.now self.now.next }
+        ensures { left result (held self.now.own.now) ≡ special kind (held self.now.own.now) self.now.next }
     {
         match kind {
             Special::FetchIp => Some(push(self.own, self.next)),
@@ -64,7 +65,7 @@ impl Slot<'_> {
     }
 
     pub fn fetch_latch(&self, fetch: Fetch) -> Option<Draft>
-        ensures { left result self.now.own.now ≡ fetching fetch self.now.own.now self.now.latch }
+        ensures { left result (held self.now.own.now) ≡ fetching fetch (held self.now.own.now) self.now.latch }
     {
         let own = self.own;
         let (off, value) = match fetch {

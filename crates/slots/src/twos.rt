@@ -3,6 +3,7 @@ ghost use Rattle.std.specs.Prelude.{◌≡◌};
 ghost use Rattle.effects.specs.Operands.{effect, top_two_of, words_of};
 ghost use Rattle.slots.specs.Left.{left};
 ghost use Rattle.slots.specs.Slots.{combining, latching};
+ghost use Rattle.stacks.specs.Held.{held};
 
 use super::slot::Slot;
 use super::tops::put_flagged;
@@ -14,7 +15,7 @@ use stacks::changes::Change;
 
 impl Slot<'_> {
     pub fn combine_two(&self, binary: Binary, operand: Operand) -> Option<Draft>
-        ensures { left result self.now.own.now ≡ combining binary self.now.own.now (top_two_of (effect operand self.now.own.now.words (words_of self.now.stacks.now))) }
+        ensures { left result (held self.now.own.now) ≡ combining binary (held self.now.own.now) (top_two_of (effect operand (held self.now.own.now).words (words_of self.now.stacks.now))) }
     {
         let two = self.reach().operand_two(operand)?;
         let word = combine(binary, two.n1, two.n2, self.own.flags);
@@ -22,7 +23,7 @@ impl Slot<'_> {
     }
 
     pub fn latch_two(&self, multiply: Multiply, operand: Operand) -> Option<Draft>
-        ensures { left result self.now.own.now ≡ latching multiply self.now.own.now (top_two_of (effect operand self.now.own.now.words (words_of self.now.stacks.now))) }
+        ensures { left result (held self.now.own.now) ≡ latching multiply (held self.now.own.now) (top_two_of (effect operand (held self.now.own.now).words (words_of self.now.stacks.now))) }
     {
         let two = self.reach().operand_two(operand)?;
         Some(Draft {

@@ -7,7 +7,7 @@ ghost use Rattle.slots.specs.Left.{left};
 ghost use Rattle.drafts.specs.Shown.{shown};
 ghost use Rattle.slots.specs.Slots.{asked, operated as operated_by, worked};
 ghost use Rattle.slots.specs.Latches.{latch_of};
-ghost use Rattle.stacks.specs.Stacks.{stack_at};
+ghost use Rattle.stacks.specs.Held.{held, held_at};
 
 use super::latches::Latches;
 use super::places::pin;
@@ -28,8 +28,8 @@ fn running(operation: Operation, skips: bool) -> Operation
 
 // The questions after an operation: were there words enough, and do 64 words hold the stack?
 fn ask(own: &Stack, operated: Option<Draft>) -> Draft
-    ensures value { shown result own.now ≡ asked own.now (left operated own.now) }
-    ensures fits { length (shown result own.now).stack.words ≤ 64 }
+    ensures value { shown result (held own.now) ≡ asked (held own.now) (left operated (held own.now)) }
+    ensures fits { length (shown result (held own.now)).stack.words ≤ 64 }
 {
     // The stack of a fault is the one before, and fits.
     prove!(own.words.depth() <= 64);
@@ -42,7 +42,7 @@ fn ask(own: &Stack, operated: Option<Draft>) -> Draft
 
 impl Slot<'_> {
     fn operate(&self, operation: Operation) -> Option<Draft>
-        ensures { left result self.now.own.now ≡ operated_by operation self.now.own.now (words_of self.now.stacks.now) self.now.latch self.now.next }
+        ensures { left result (held self.now.own.now) ≡ operated_by operation (held self.now.own.now) (words_of self.now.stacks.now) self.now.latch self.now.next }
     {
         let own = self.own;
         match operation {
@@ -63,8 +63,8 @@ impl Slot<'_> {
 
     #[tactic(auto, unfolding(crate::specs::Slots::worked))]
     fn work(&self, operation: Operation) -> Draft
-        ensures value { shown result self.now.own.now ≡ worked operation self.now.own.now (words_of self.now.stacks.now) self.now.latch self.now.next }
-        ensures fits { length (shown result self.now.own.now).stack.words ≤ 64 }
+        ensures value { shown result (held self.now.own.now) ≡ worked operation (held self.now.own.now) (words_of self.now.stacks.now) self.now.latch self.now.next }
+        ensures fits { length (shown result (held self.now.own.now)).stack.words ≤ 64 }
     {
         let own = self.own;
         ask(own, self.operate(running(operation, own.skips)))
@@ -79,8 +79,8 @@ pub fn work(
     latches: Latches,
     next: u32,
 ) -> Draft
-    ensures value { let own = stack_at stacks.now (stack_number number) in shown result own ≡ worked operation own (words_of stacks.now) (latch_of latches number) next }
-    ensures fits { length (shown result (stack_at stacks.now (stack_number number))).stack.words ≤ 64 }
+    ensures value { let own = held_at stacks.now (stack_number number) in shown result own ≡ worked operation own (words_of stacks.now) (latch_of latches number) next }
+    ensures fits { length (shown result (held_at stacks.now (stack_number number))).stack.words ≤ 64 }
 {
     let slot = Slot {
         stacks,

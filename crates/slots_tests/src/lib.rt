@@ -4,6 +4,8 @@
 #[cfg(test)]
 mod combined;
 #[cfg(test)]
+mod copied;
+#[cfg(test)]
 mod edges;
 #[cfg(test)]
 mod latched;

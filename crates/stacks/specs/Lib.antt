@@ -1,5 +1,4 @@
 pub mod Words
-pub mod WordsAgain
 pub mod Changes
 pub mod Pins
-pub mod Stacks
+pub mod Held

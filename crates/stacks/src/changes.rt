@@ -22,7 +22,7 @@ pub enum Change {
 }
 
 impl Few {
-    pub(crate) fn words(&self) -> &[u32]
+    fn words(&self) -> &[u32]
         ensures value { result.now ≡ few_words self.now }
         ensures below { length result.now ≤ 4 }
     {

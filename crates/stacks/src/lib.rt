@@ -3,6 +3,7 @@
 
 pub mod changes;
 pub mod contents;
+mod equality;
 pub mod reading;
 pub mod settling;
 pub mod stack;

@@ -1,5 +1,5 @@
 ghost use Rattle.std.specs.Prelude.{◌≡◌};
-ghost use Rattle.stacks.specs.Stacks.{empty};
+ghost use Rattle.stacks.specs.Held.{empty, held};
 
 use super::contents::Words;
 use words::flags::Flags;
@@ -15,7 +15,7 @@ pub struct Stack {
 
 impl Stack {
     pub fn new() -> Stack
-        ensures { result ≡ empty }
+        ensures { held result ≡ empty }
     {
         Stack {
             words: Words::new(),
