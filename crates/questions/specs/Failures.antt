@@ -15,6 +15,11 @@ abbrev pub failure_text : {R : Type 0} → (R → Option (List ℕ)) → Failure
 failure_text shown (Refused refusal) = shown refusal
 failure_text shown OutOfMemory = Some (codes "there is not memory enough")
 
+-- what holds of a refusal, if a failure is one
+abbrev pub ForRefused : {R : Type 0} → Failure R → (R → Type 0) → Type 0
+ForRefused (Refused refusal) P = P refusal
+ForRefused OutOfMemory P = Unit {0}
+
 -- a failure with its refusal turned into another
 abbrev pub MapsTo : {R S : Type 0} → Failure R → (R → S → Type 0) → Failure S → Type 0
 MapsTo (Refused refusal) P (Refused other) = P refusal other

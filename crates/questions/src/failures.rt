@@ -1,6 +1,6 @@
 // What can go wrong where something is made on the heap: a refusal, or want of memory.
 ghost use Rattle.std.specs.Prelude.{◌≡◌};
-ghost use Rattle.questions.specs.Failures.{MapsTo, failure_text};
+ghost use Rattle.questions.specs.Failures.{ForRefused, MapsTo, failure_text};
 ghost use Rattle.questions.specs.declared.failures.Failure.TheVariants.{Refused as Is, OutOfMemory};
 
 use super::refusals::Refusal;
@@ -16,6 +16,17 @@ pub enum Failure<R> {
 }
 
 impl<R> Failure<R> {
+    // The same failure, with its refusal turned into another.
+    pub fn map<S, F: FnOnce(R) -> S + Drop>(self, turn: F) -> Failure<S>
+        requires { ForRefused self (F.pre turn) }
+        ensures { MapsTo self (F.post turn) result }
+    {
+        match self {
+            Failure::Refused(refusal) => Failure::Refused(turn(refusal)),
+            Failure::OutOfMemory => Failure::OutOfMemory,
+        }
+    }
+
     // The same failure, its refusal as one of another kind.
     pub fn map_into<S: From<R>>(self) -> Failure<S>
         ensures { MapsTo self S.from_gives result }
